@@ -1,0 +1,106 @@
+-- What the tests and branches of the float helpers say. Assumes nothing.
+use Prim.Native.Nat.{ℕ, zero, suc, _+_, _*_, _^_, _<_, _≤_}
+use mathlib.Core.Path.{_≡_, refl, sym, ap, _∙_, subst}
+use mathlib.Core.Bool.{Bool, true, false, not, cond, _&&_, _||_, Bool·beq}
+use native.Mathlib.Nat.{mul-pos, zero-mul, pow-suc}
+use native.Mathlib.Omega.{arith}
+use lib.Dec.{T, eqb, ltb}
+use lib.Pow.{pow-pos}
+use lib.IntN.{ℤ, pos, negsuc}
+use lib.Count.{trailingZeros}
+use lib.Ieee.{Float, nan, inf, fin, binary64, lt, eq, ne, neg, div, round, isNan, fits, ofBits, ofFields, odd, up, down, level}
+use borrow.Author.Tests.{ltb-true, ltb-false, eqb-true, eq-eqb, ne-eqb}
+use Rattle.float.specs.Arith.{_⊘_, zero+, one, abs, larger, finite, plusZero}
+
+false≢true : {A : Type 0} → false ≡ true → A
+false≢true e = absurd (subst T (sym e) tt)
+
+true≢false : {A : Type 0} → true ≡ false → A
+true≢false e = absurd (subst T e tt)
+
+and-left : (a b : Bool) → (a && b) ≡ true → a ≡ true
+unfolding _&&_
+and-left true b e = refl
+and-left false b e = e
+
+up-pos : (e : ℤ) → 0 < up e
+up-pos (pos k) = pow-pos k
+up-pos (negsuc k) = omega arith
+
+pub between : (x : Float) → (lt (inf true) x && lt x (inf false)) ≡ finite x
+unfolding lt finite
+between nan = refl
+between (inf true) = refl
+between (inf false) = refl
+between (fin s m e) = refl
+
+not-level : (m : ℕ) (e : ℤ) → eqb (suc m * up e * 1) (0 * down e) ≡ false
+not-level m e = ne-eqb (suc m * up e * 1) (0 * down e) (λ h. omega (arith, h, mul-pos {m = suc m} {n = up e} (omega arith) (up-pos e)))
+
+pub is-plus : (x : Float) → (eq x zero+ && lt zero+ (one ⊘ x)) ≡ plusZero x
+unfolding lt eq div plusZero ofBits ofFields odd trailingZeros
+is-plus nan = refl
+is-plus (inf true) = refl
+is-plus (inf false) = refl
+is-plus (fin true zero e) = simp zero-mul
+is-plus (fin false zero e) = simp zero-mul
+is-plus (fin true (suc m) e) = rw (not-level m e)
+is-plus (fin false (suc m) e) = rw (not-level m e, ne-eqb (suc m) 0 (λ h. omega (arith, h)))
+
+pub abs-neg : (x : Float) → lt x zero+ ≡ true → neg x ≡ abs x
+unfolding abs neg lt ofBits ofFields odd trailingZeros
+abs-neg nan h = false≢true h
+abs-neg (inf true) h = refl
+abs-neg (inf false) h = false≢true h
+abs-neg (fin true m e) h = refl
+abs-neg (fin false m e) h = absurd (omega (arith, ltb-true (m * up e * 1) (0 * down e) h))
+
+zero-exponent : (e : ℤ) → up e * down e ≡ 1 → e ≡ pos 0
+zero-exponent (pos zero) h = refl
+zero-exponent (pos (suc k)) h = absurd (omega (arith, pow-suc 2 k, pow-pos k))
+zero-exponent (negsuc k) h = absurd (omega (arith, pow-suc 2 k, pow-pos k))
+
+pub abs-zero : (x : Float) → fits binary64 x ≡ true → eq x zero+ ≡ true → zero+ ≡ abs x
+unfolding abs eq fits ofBits ofFields odd trailingZeros
+abs-zero nan f h = false≢true h
+abs-zero (inf s) f h = false≢true h
+abs-zero (fin s zero e) f h = ap (fin false zero) (sym (zero-exponent e (eqb-true _ _ f)))
+abs-zero (fin s (suc m) e) f h = absurd (omega (arith, eqb-true (suc m * up e * 1) (0 * down e) (and-left (eqb (suc m * up e * 1) (0 * down e)) (Bool·beq s false || eqb (suc m * up e * 1) 0) h), mul-pos {m = suc m} {n = up e} (omega arith) (up-pos e)))
+
+level-zero : (a b : ℕ) → a ≡ 0 → b ≡ 0 → level true a false b ≡ true
+unfolding _&&_ _||_ Bool·beq
+level-zero a b h k = rw (h, k)
+
+pub abs-pos : (x : Float) → lt x zero+ ≡ false → eq x zero+ ≡ false → x ≡ abs x
+unfolding abs lt eq ofBits ofFields odd trailingZeros
+abs-pos nan h k = refl
+abs-pos (inf true) h k = true≢false h
+abs-pos (inf false) h k = refl
+abs-pos (fin false m e) h k = refl
+abs-pos (fin true m e) h k =
+    let z : m * up e * 1 ≡ 0 = omega (arith, ltb-false 0 (m * up e * 1 + 0 * down e) h) in
+    true≢false (sym (level-zero (m * up e * 1) (0 * down e) z (omega arith)) ∙ k)
+
+same-sign : (s : Bool) → Bool·beq s s ≡ true
+unfolding Bool·beq
+same-sign true = refl
+same-sign false = refl
+
+ne-self : (x : Float) → ne x x ≡ isNan x
+unfolding ne eq isNan _&&_ _||_ not
+ne-self nan = refl
+ne-self (inf true) = refl
+ne-self (inf false) = refl
+ne-self (fin s m e) = rw (eq-eqb (m * up e * down e) (m * up e * down e) refl, same-sign s)
+
+pub larger-nan : (x y : Float) → ne x x ≡ true → y ≡ larger x y
+unfolding larger
+larger-nan x y h = rw (← ne-self, h)
+
+pub larger-second : (x y : Float) → ne x x ≡ false → lt x y ≡ true → y ≡ larger x y
+unfolding larger
+larger-second x y h k = rw (← ne-self, h, k)
+
+pub larger-first : (x y : Float) → ne x x ≡ false → lt x y ≡ false → x ≡ larger x y
+unfolding larger
+larger-first x y h k = rw (← ne-self, h, k)

@@ -1,0 +1,15 @@
+pub mod Floats
+pub mod Sums
+pub mod Round
+pub mod Mag
+pub mod Signed
+pub mod Total
+pub mod Square
+pub mod Steps
+pub mod Bits
+pub mod Midway
+pub mod Strict
+pub mod Nearest
+pub mod Cases
+pub mod Roots
+pub mod RootExamples

@@ -1,0 +1,3 @@
+pub mod Arith
+pub mod Root
+pub mod Digits
