@@ -1,0 +1,6 @@
+pub mod Numbers
+pub mod Vectors
+pub mod Phi
+pub mod Pass
+pub mod Schemes
+pub mod Step
