@@ -6,7 +6,14 @@
 mod stand_ins;
 
 pub mod bits;
+pub mod bytes;
 pub mod exact;
+pub mod field;
+mod float_list;
+pub mod lists;
+mod matrix_list;
+pub mod pass;
+mod pass_list;
 pub mod random;
 pub mod refused;
 pub mod search;
