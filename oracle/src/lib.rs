@@ -12,6 +12,7 @@ pub mod field;
 mod float_list;
 pub mod lists;
 mod matrix_list;
+pub mod order;
 pub mod pass;
 mod pass_list;
 pub mod random;

@@ -7,6 +7,7 @@ const USAGE: &str = "\
 usage: oracle COMMAND
   search            the norms on which the published squaring count and document 01's step 2 differ
   refused           what the Rust does with each kind of input that document 01 refuses by 6
+  order             the order of each scheme, seen as the step is halved
   lists FOLDER      writes the fixed lists below FOLDER: float_run, matrix_run, methods_run
   lists --check FOLDER
                     makes them anew and compares them with the files";
@@ -17,6 +18,7 @@ fn main() {
     match words[..] {
         ["search"] => print(&oracle::search::report()),
         ["refused"] => print(&oracle::refused::report()),
+        ["order"] => print(&oracle::order::report()),
         ["lists", "--check", folder] => {
             let (good, told) = oracle::lists::check(Path::new(folder)).unwrap_or_else(fail);
             print(&told);
