@@ -1,1 +1,11 @@
+pub mod Rows
+pub mod Products
+pub mod Powers
+pub mod Series
+pub mod Row
+pub mod Terms
+pub mod Stop
+pub mod Scaled
+pub mod Claims
+pub mod Whole
 pub mod Vectors
