@@ -2,19 +2,11 @@
 
 /// The pattern that crosses a pipe: a NaN's payload is open, so every NaN is written the same.
 pub fn pattern(x: f64) -> u64 {
-    if x.is_nan() {
-        0x7ff8_0000_0000_0000
-    } else {
-        x.to_bits()
-    }
+    if x.is_nan() { 0x7ff8_0000_0000_0000 } else { x.to_bits() }
 }
 
 pub fn same(left: &[f64], right: &[f64]) -> bool {
-    left.len() == right.len()
-        && left
-            .iter()
-            .zip(right)
-            .all(|(l, r)| pattern(*l) == pattern(*r))
+    left.len() == right.len() && left.iter().zip(right).all(|(l, r)| pattern(*l) == pattern(*r))
 }
 
 /// 2 to a power from -1074 to 1023, exactly.

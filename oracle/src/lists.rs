@@ -1,6 +1,6 @@
 //! The fixed lists: what goes into a program of the port, and what must come out of it.
 
-use crate::{float_list, matrix_list, pass_list};
+use crate::{fixed_script, float_list, matrix_list, pass_list};
 use std::io;
 use std::path::Path;
 
@@ -13,7 +13,7 @@ pub struct List {
 }
 
 pub fn all() -> Vec<List> {
-    vec![float_list::list(), matrix_list::list(), pass_list::list()]
+    vec![float_list::list(), matrix_list::list(), pass_list::list(), fixed_script::list()]
 }
 
 /// Writes each list to its folder below `folder`.

@@ -37,14 +37,7 @@ pub struct Input {
 impl Input {
     fn new(jacobian: Option<f64>, state: f64, f0: f64, step: f64, answers: &[f64]) -> Self {
         let answers = answers.to_vec();
-        Self {
-            jacobian,
-            time: 0.0,
-            state,
-            f0,
-            step,
-            answers,
-        }
+        Self { jacobian, time: 0.0, state, f0, step, answers }
     }
 }
 
@@ -70,21 +63,14 @@ pub fn fate(scheme: usize, input: &Input) -> Fate {
     let result = catch_unwind(AssertUnwindSafe(|| {
         kernel.initialize(&problem, &[input.state], input.time, &mut stats)?;
         let state = [input.state];
-        kernel.attempt_step(
-            &problem, &state, input.time, input.step, &mut candidate, &options, &mut stats,
-        )
+        kernel.attempt_step(&problem, &state, input.time, input.step, &mut candidate, &options, &mut stats)
     }));
     match result {
         Ok(Ok(_)) if candidate[0].to_bits() == input.state.to_bits() => Fate::OldState,
-        Ok(Ok(norm)) => Fate::GoesOn {
-            candidate: candidate[0],
-            norm,
-        },
+        Ok(Ok(norm)) => Fate::GoesOn { candidate: candidate[0], norm },
         Ok(Err(_)) => Fate::Errs,
         Err(panic) => match panic.downcast::<Unbearable>() {
-            Ok(unbearable) => Fate::Hangs {
-                squarings: unbearable.0,
-            },
+            Ok(unbearable) => Fate::Hangs { squarings: unbearable.0 },
             Err(other) => std::panic::resume_unwind(other),
         },
     }
@@ -100,62 +86,29 @@ pub fn kinds() -> Vec<(&'static str, Input)> {
             "a differenced Jacobian entry not finite",
             Input::new(None, 0.0, 0.0, 1.0, &[power_of_two(998), 0.0]),
         ),
-        (
-            "J u not finite",
-            Input::new(Some(-2.0), huge, 0.0, 1.0, &[0.0]),
-        ),
-        (
-            "f0 - J u not finite",
-            Input::new(Some(-1.0), f64::MAX, power_of_two(970), 1.0, &[0.0]),
-        ),
-        (
-            "a row sum infinite, by an entry of h J",
-            Input::new(Some(huge), 0.0, 0.0, 2.0, &[0.0]),
-        ),
-        (
-            "a row sum infinite, by the input column",
-            Input::new(Some(huge), 0.0, huge, 1.0, &[0.0]),
-        ),
+        ("J u not finite", Input::new(Some(-2.0), huge, 0.0, 1.0, &[0.0])),
+        ("f0 - J u not finite", Input::new(Some(-1.0), f64::MAX, power_of_two(970), 1.0, &[0.0])),
+        ("a row sum infinite, by an entry of h J", Input::new(Some(huge), 0.0, 0.0, 2.0, &[0.0])),
+        ("a row sum infinite, by the input column", Input::new(Some(huge), 0.0, huge, 1.0, &[0.0])),
         (
             "a row sum NaN (h^2 is 0, so that 32 / h^2 times a zero is NaN)",
             Input::new(Some(0.0), 0.0, 0.0, power_of_two(-540), &[0.0]),
         ),
-        (
-            "a row sum just above 2^31",
-            Input::new(Some(-power_of_two(31).next_up()), 1.0, 1.0, 1.0, &[1.0]),
-        ),
-        (
-            "a row sum of 2^40, J positive",
-            Input::new(Some(power_of_two(40)), 1.0, 1.0, 1.0, &[1.0]),
-        ),
-        (
-            "a row sum of 2^40, J negative",
-            Input::new(Some(-power_of_two(40)), 1.0, 1.0, 1.0, &[1.0]),
-        ),
+        ("a row sum just above 2^31", Input::new(Some(-power_of_two(31).next_up()), 1.0, 1.0, 1.0, &[1.0])),
+        ("a row sum of 2^40, J positive", Input::new(Some(power_of_two(40)), 1.0, 1.0, 1.0, &[1.0])),
+        ("a row sum of 2^40, J negative", Input::new(Some(-power_of_two(40)), 1.0, 1.0, 1.0, &[1.0])),
         (
             "a row sum whose count comes to 1024",
             Input::new(Some(1.5 * power_of_two(1022)), 1.0, 1.0, 1.0, &[1.0]),
         ),
-        (
-            "a row sum of 2^1023, which doubled is infinite",
-            Input::new(Some(huge), 1.0, 1.0, 1.0, &[1.0]),
-        ),
-        (
-            "an asked state not finite, in a stage",
-            Input::new(Some(0.0), huge, 1.0, huge, &[0.0]),
-        ),
-        (
-            "an asked state not finite, in differencing",
-            Input::new(None, f64::MAX, 0.0, 1.0, &[0.0]),
-        ),
+        ("a row sum of 2^1023, which doubled is infinite", Input::new(Some(huge), 1.0, 1.0, 1.0, &[1.0])),
+        ("an asked state not finite, in a stage", Input::new(Some(0.0), huge, 1.0, huge, &[0.0])),
+        ("an asked state not finite, in differencing", Input::new(None, f64::MAX, 0.0, 1.0, &[0.0])),
         (
             "an asked time not finite, and the accepted time",
             at_time(huge, Input::new(Some(0.0), 1.0, 0.0, huge, &[0.0])),
         ),
-        (
-            "a candidate not finite",
-            Input::new(Some(0.0), huge, 1.0, huge, &[1.0]),
-        ),
+        ("a candidate not finite", Input::new(Some(0.0), huge, 1.0, huge, &[1.0])),
         (
             "an error entry not finite",
             Input::new(Some(0.0), 0.0, large, power_of_two(1000), &[-large, large]),

@@ -9,20 +9,12 @@ pub const PUBLISHED_LINE: &str = "(norm / 0.5).log2().ceil() as u32";
 
 /// The published count, by that line.
 pub fn published_squarings(norm: f64) -> u32 {
-    if norm <= 0.5 {
-        0
-    } else {
-        (norm / 0.5).log2().ceil() as u32
-    }
+    if norm <= 0.5 { 0 } else { (norm / 0.5).log2().ceil() as u32 }
 }
 
 /// The count of step 2, for a norm up to 2^31.
 pub fn exact_squarings(norm: f64) -> u32 {
-    if norm <= 0.5 {
-        0
-    } else {
-        exact::squarings(norm)
-    }
+    if norm <= 0.5 { 0 } else { exact::squarings(norm) }
 }
 
 /// How many neighbours on each side of a power of two are tried.
@@ -86,10 +78,7 @@ pub fn report() -> String {
     ] {
         let count = published_squarings(norm);
         let divisor = 2.0_f64.powi(count as i32);
-        lines.push(format!(
-            "  {words}, {:#018x}: {count} squarings, divisor {divisor:?}",
-            norm.to_bits()
-        ));
+        lines.push(format!("  {words}, {:#018x}: {count} squarings, divisor {divisor:?}", norm.to_bits()));
     }
     lines.join("\n") + "\n"
 }

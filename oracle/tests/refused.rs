@@ -2,9 +2,7 @@
 
 use oracle::refused::{Fate, fate, kinds};
 
-const HANGS: Fate = Fate::Hangs {
-    squarings: u32::MAX,
-};
+const HANGS: Fate = Fate::Hangs { squarings: u32::MAX };
 
 fn fates(words: &str) -> Vec<Fate> {
     let (_, input) = kinds().into_iter().find(|(kind, _)| *kind == words).unwrap();

@@ -1,0 +1,351 @@
+//! The model of document 01's session.
+
+use oracle::bits::{pattern, same};
+use oracle::bytes::Reader;
+use oracle::compare::first_difference;
+use oracle::console::{self, BEFORE, Call, Console, put_call, put_image, read_call};
+use oracle::field::Field;
+use oracle::fixed_script::fixed_script;
+use oracle::model::{Answer, Attempt, Opening, PLACES, Session, Vector};
+use oracle::pass::ETD2;
+use oracle::random::Random;
+use oracle::random_script::random_script;
+use oracle::{OdeProblem, SolveOptions, SolverStats, published};
+
+fn vector(values: &[f64]) -> Vector {
+    let mut vector = [0.0; PLACES];
+    vector[..values.len()].copy_from_slice(values);
+    vector
+}
+
+fn image(session: &Session) -> Vec<u8> {
+    let mut bytes = Vec::new();
+    put_image(&mut bytes, session);
+    bytes
+}
+
+fn calls_of(script: &[u8]) -> Vec<Call> {
+    let mut reader = Reader::new(script);
+    std::iter::from_fn(|| read_call(&mut reader)).collect()
+}
+
+/// Three steps of the published kernel and of the model, a right-hand side between them.
+fn beside_the_kernel(scheme: usize, n: usize, supplied: bool, random: &mut Random) {
+    let field = Field::new(n, 2.0, random);
+    let mut state: Vec<f64> = (0..n).map(|_| random.unit()).collect();
+    let jacobian = field.jacobian(&state);
+    let mut time = 0.5;
+    let (relative, absolute) = (1e-3, 1e-6);
+    let rhs = |derivative: &mut [f64], u: &[f64], _: &(), t: f64| {
+        derivative.copy_from_slice(&field.at(t, u));
+        Ok(())
+    };
+    let problem =
+        if supplied { OdeProblem::with_jacobian(rhs, jacobian.clone()) } else { OdeProblem::new(rhs) };
+    let options = SolveOptions::tolerances(relative, absolute);
+    let mut kernel = published::kernel(n, scheme);
+    let mut stats = SolverStats::default();
+    kernel.initialize(&problem, &state, time, &mut stats).unwrap();
+
+    let (answer, mut session) = Session::open(&Opening {
+        scheme: scheme as u8,
+        n: n as u8,
+        history_held: false,
+        time,
+        relative,
+        absolute,
+        state: vector(&state),
+        derivative: vector(&field.at(time, &state)),
+        history: vector(&[]),
+    });
+    assert_eq!(answer, Answer::Resting);
+    for step in [0.1, 0.05, 0.05] {
+        let mut candidate = vec![0.0; n];
+        let mut counted = SolverStats::default();
+        let norm = kernel
+            .attempt_step(&problem, &state, time, step, &mut candidate, &options, &mut counted)
+            .unwrap();
+
+        let mut handed = [0.0; PLACES * PLACES];
+        if supplied {
+            handed[..n * n].copy_from_slice(&jacobian);
+        }
+        let mut lent = vec![BEFORE; n];
+        let mut told = session.begin(supplied, step, &handed, &mut lent);
+        while let (Answer::Ask { time }, session) = told {
+            let answer = vector(&field.at(time, &lent));
+            told = session.supply(&answer, &mut lent);
+        }
+        let ready = Answer::Ready {
+            norm,
+            right_hand_sides: counted.rhs_evaluations as u32,
+            jacobians: counted.jacobian_evaluations as u32,
+        };
+        assert_eq!(told.0, ready);
+        assert!(same(&lent, &candidate));
+
+        time += step;
+        kernel.accept_step(&problem, &candidate, time, &mut stats).unwrap();
+        let (answer, next) = told.1.accept(&vector(&field.at(time, &candidate)));
+        assert_eq!(answer, Answer::Resting);
+        assert!(same(&next.state[..n], &candidate) && next.time == time);
+        assert_eq!(next.history_held, scheme == ETD2);
+        state = candidate;
+        session = next;
+    }
+}
+
+#[test]
+fn the_model_steps_as_the_published_kernel_does() {
+    let mut random = Random::new(60);
+    for scheme in 0..16 {
+        for n in [1, 2, 5] {
+            beside_the_kernel(scheme, n, true, &mut random);
+            beside_the_kernel(scheme, n, false, &mut random);
+        }
+    }
+}
+
+#[test]
+fn a_refused_call_changes_nothing() {
+    let mut refused = 0;
+    for seed in 100..120 {
+        let mut console = Console::default();
+        for call in calls_of(&random_script(seed, 500).bytes) {
+            let before = image(&console.session);
+            let told = console.call(&call, &mut Vec::new());
+            if let Some(Answer::Refused(number)) = told.answer {
+                assert!((1..=7).contains(&number));
+                assert!(told.lent.iter().all(|place| *place == BEFORE));
+                let after = image(&console.session);
+                let blank = image(&Session::blank());
+                let expected = if matches!(call, Call::Open(_)) { blank } else { before };
+                assert!(after == expected, "{call:?}");
+                refused += 1;
+            }
+            if let Some(Answer::Ready { norm, .. } | Answer::Norm(norm)) = told.answer {
+                assert!(!norm.is_nan());
+            }
+        }
+    }
+    assert!(refused > 500);
+}
+
+#[test]
+fn the_fixed_script_covers_every_op_and_refusal() {
+    let script = fixed_script();
+    let seen = |op: &'static str, outcome: &str| {
+        assert!(script.tally.outcomes.contains_key(&(op, outcome.to_string())), "{op}: {outcome}");
+    };
+    for (op, numbers) in [
+        ("open", &[1, 2, 3, 4][..]),
+        ("begin", &[1, 2, 3, 4, 5, 6, 7]),
+        ("supply", &[1, 2, 3, 4, 5, 6, 7]),
+        ("accept", &[1, 2, 3, 4, 5, 6, 7]),
+        ("drop", &[1, 2, 3, 4, 5]),
+        ("first step", &[1, 2, 3, 4, 5]),
+        ("bare exponential", &[1, 3, 6]),
+        ("bare phi action", &[1, 3, 6]),
+        ("bare error norm", &[1, 3, 4]),
+    ] {
+        for number in numbers {
+            seen(op, &format!("refused by {number}"));
+        }
+    }
+    for (op, outcome) in [
+        ("open", "resting"),
+        ("begin", "ask"),
+        ("begin", "ready"),
+        ("supply", "ask"),
+        ("supply", "ready"),
+        ("accept", "resting"),
+        ("drop", "resting"),
+        ("first step", "first step"),
+        ("bare exponential", "filled"),
+        ("bare phi action", "filled"),
+        ("bare error norm", "norm"),
+        ("show", "done"),
+        ("load", "done"),
+    ] {
+        seen(op, outcome);
+    }
+    for scheme in 0..16 {
+        for supplied in [true, false] {
+            assert!(script.tally.ready.contains_key(&(scheme, supplied)));
+        }
+    }
+    assert_eq!(console::run(&script.bytes), script.replies);
+}
+
+/// The checks on a session and on what is handed in, each with everything after it wrong too.
+#[test]
+fn checks_run_in_the_order_of_document_01() {
+    let mut session = Session::open(&Opening {
+        scheme: 2,
+        n: 1,
+        history_held: false,
+        time: 0.0,
+        relative: 1.0,
+        absolute: 1.0,
+        state: vector(&[1.0]),
+        derivative: vector(&[2.0]),
+        history: vector(&[]),
+    })
+    .1;
+    session.attempt = Attempt::Supplied;
+    session.count = 2;
+    session.answers[0][0] = f64::NAN;
+    session.answers[1][0] = 1.0;
+    session.state[1] = 1.0;
+    session.relative = 0.0;
+    let refused = |session: &Session| session.clone().accept(&vector(&[f64::NAN])).0;
+    assert_eq!(refused(&session), Answer::Refused(1));
+    session.state[1] = 0.0;
+    assert_eq!(refused(&session), Answer::Refused(2));
+    session.answers[1][0] = 0.0;
+    session.count = 0;
+    session.answers[0][0] = 0.0;
+    session.derivative[0] = f64::INFINITY;
+    assert_eq!(refused(&session), Answer::Refused(7));
+    session.count = 1;
+    assert_eq!(refused(&session), Answer::Refused(4));
+    session.relative = 1.0;
+    assert_eq!(refused(&session), Answer::Refused(5));
+    session.step = 1.0;
+    assert_eq!(refused(&session), Answer::Refused(3));
+    session.derivative[0] = 2.0;
+    assert_eq!(refused(&session), Answer::Refused(3));
+    session.time = f64::MAX;
+    session.step = f64::MAX;
+    assert_eq!(session.clone().accept(&vector(&[1.0])).0, Answer::Refused(6));
+}
+
+/// Flips the components of `mask` in a vector, or the entries of a matrix just one of whose row and column is in it.
+fn flip_vector(values: &mut [f64], mask: u32) {
+    for (place, value) in values.iter_mut().enumerate() {
+        if mask >> place & 1 == 1 {
+            *value = -*value;
+        }
+    }
+}
+
+fn flip_matrix(values: &mut [f64], n: usize, mask: u32) {
+    for row in 0..n {
+        for column in 0..n {
+            if (mask >> row ^ mask >> column) & 1 == 1 {
+                let place = row * n + column;
+                values[place] = -values[place];
+            }
+        }
+    }
+}
+
+fn flipped_call(call: &Call, n: usize, mask: u32) -> Call {
+    let mut call = call.clone();
+    match &mut call {
+        Call::Open(opening) => {
+            flip_vector(&mut opening.state, mask);
+            flip_vector(&mut opening.derivative, mask);
+            if opening.history_held {
+                flip_vector(&mut opening.history, mask);
+            }
+        }
+        Call::Begin { supplied: true, jacobian, .. } => flip_matrix(&mut jacobian[..], n, mask),
+        Call::Supply { answer, .. } => flip_vector(answer, mask),
+        Call::Accept { derivative } => flip_vector(derivative, mask),
+        _ => {}
+    }
+    call
+}
+
+fn flipped_session(session: &Session, n: usize, mask: u32) -> Session {
+    let mut session = session.clone();
+    flip_vector(&mut session.state, mask);
+    flip_vector(&mut session.derivative, mask);
+    if session.history_held {
+        flip_vector(&mut session.history, mask);
+    }
+    if session.attempt == Attempt::Supplied {
+        flip_matrix(&mut session.jacobian, n, mask);
+    }
+    let count = usize::from(session.count);
+    for answer in &mut session.answers[..count] {
+        flip_vector(answer, mask);
+    }
+    session
+}
+
+/// An image with its zeros all +0.
+fn without_zero_signs(session: &Session) -> Vec<u64> {
+    let bytes = image(session);
+    let (head, doubles) = bytes.split_at(5);
+    let doubles = doubles.chunks(8).map(|chunk| {
+        let x = f64::from_le_bytes(chunk.try_into().unwrap());
+        pattern(if x == 0.0 { 0.0 } else { x })
+    });
+    head.iter().map(|byte| u64::from(*byte)).chain(doubles).collect()
+}
+
+/// Demand 3 on the model: two runs, one flipped, over an opening and the calls after it.
+#[test]
+fn mirrored_runs_are_each_others_flips() {
+    let mut random = Random::new(70);
+    let mut steps = 0;
+    for seed in 200..240 {
+        let mut plain = Console::default();
+        let mut mirrored = Console::default();
+        let (mut n, mut mask) = (0, 0);
+        for call in calls_of(&random_script(seed, 600).bytes) {
+            match &call {
+                Call::Open(opening) => {
+                    n = usize::from(opening.n).min(PLACES);
+                    mask = random.draw() as u32 & ((1 << n) - 1);
+                }
+                // Left out: bare calls, sessions altered in between, Jacobians differenced.
+                Call::Begin { supplied: true, .. } => {}
+                Call::Supply { .. } | Call::Accept { .. } | Call::Drop | Call::FirstStep { .. } => {}
+                _ => continue,
+            }
+            let one = plain.call(&call, &mut Vec::new());
+            let other = mirrored.call(&flipped_call(&call, n, mask), &mut Vec::new());
+            assert_eq!(one.answer, other.answer, "seed {seed}: {call:?}");
+            let mut lent = one.lent.clone();
+            if !matches!(one.answer, Some(Answer::Refused(_))) {
+                flip_vector(&mut lent, mask);
+            }
+            // Zeros of either sign are equal.
+            assert!(lent == other.lent, "seed {seed}: {call:?}");
+            let flipped = flipped_session(&plain.session, n, mask);
+            assert_eq!(without_zero_signs(&flipped), without_zero_signs(&mirrored.session));
+            steps += usize::from(matches!(one.answer, Some(Answer::Ready { .. })) && mask != 0);
+        }
+    }
+    assert!(steps > 300, "{steps}");
+}
+
+#[test]
+fn a_changed_byte_of_a_reply_is_found() {
+    let script = random_script(7, 100);
+    assert_eq!(first_difference(&script.bytes, &script.replies), None);
+    let mut changed = script.replies.clone();
+    let last = changed.len() - 1;
+    changed[last] ^= 1;
+    assert!(first_difference(&script.bytes, &changed).is_some());
+    assert!(first_difference(&script.bytes, &script.replies[..last]).is_some());
+    changed = script.replies.clone();
+    changed.push(0);
+    assert!(first_difference(&script.bytes, &changed).is_some());
+}
+
+#[test]
+fn a_script_ends_where_the_page_says() {
+    let mut good = Vec::new();
+    put_call(&mut good, &Call::Drop);
+    let reply = console::run(&good);
+    assert_eq!(reply.len(), 18);
+    let ends: [&[u8]; 4] = [&[11], &[255], &[5, 0, 0], &[6, 1, 1, 2, 0, 2]];
+    for end in ends {
+        let script = [&good[..], end, &good].concat();
+        assert_eq!(console::run(&script), reply);
+    }
+}
