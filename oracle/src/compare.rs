@@ -31,15 +31,18 @@ pub fn first_difference(script: &[u8], replies: &[u8]) -> Option<String> {
     let mut number = 0;
     while let Some(call) = read_call(&mut reader) {
         let mut reply = Vec::new();
-        console.call(&call, &mut reply);
+        let told = console.call(&call, &mut reply);
         let theirs = &replies[before.min(replies.len())..(before + reply.len()).min(replies.len())];
         if theirs != reply {
             let same = theirs.iter().zip(&reply).take_while(|(a, b)| a == b).count();
             let words = format!("{call:?}");
             let short: String = words.chars().take(400).collect();
             return Some(format!(
-                "call {number} differs at byte {same} of its reply of {} bytes\n  {short}",
-                reply.len()
+                "call {number} differs at byte {same} of its reply of {} bytes\n  {short}\n  \
+                 the model tells {:?}, the program outcome, refusal {:?}",
+                reply.len(),
+                told.answer,
+                &theirs[..theirs.len().min(2)],
             ));
         }
         before += reply.len();

@@ -113,6 +113,16 @@ fn example(scheme: usize, step: f64, sign: f64, history: Option<f64>) -> Run {
     Run { start, answers }
 }
 
+/// A phi action of f0 = 1 over the whole step has the double just above 8 for its norm, where the published squaring
+/// count is one less.
+fn above_8(scheme: usize) -> Run {
+    let mut run = example(scheme, 1.0, 1.0, None);
+    run.start.state = vec![0.0];
+    run.start.f0 = vec![1.0];
+    run.start.jacobian = vec![1.0 - 8.0_f64.next_up()];
+    run
+}
+
 /// Runs whose every number of answers is listed.
 fn in_full(scheme: usize, random: &mut Random) -> Vec<Run> {
     let mut runs = Vec::new();
@@ -125,6 +135,7 @@ fn in_full(scheme: usize, random: &mut Random) -> Vec<Run> {
     }
     runs.push(smooth(scheme, 16, 2000.0, 0.03, random));
     runs.push(example(scheme, 1.0, 1.0, None));
+    runs.push(above_8(scheme));
     if scheme == ETD2 {
         runs.push(example(scheme, 1.0, 1.0, Some(1.0)));
     }
