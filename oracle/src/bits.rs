@@ -36,6 +36,9 @@ pub fn show(x: f64) -> String {
     if magnitude == f64::MAX {
         return format!("{sign}(2^1024 - 2^971)");
     }
+    if magnitude.is_subnormal() && magnitude.to_bits().is_power_of_two() {
+        return format!("{sign}2^{}", magnitude.to_bits().trailing_zeros() as i32 - 1074);
+    }
     for places in -1..=1 {
         let neighbour = above(magnitude, -places);
         if neighbour.to_bits() << 12 == 0 && neighbour.is_normal() {

@@ -8,7 +8,7 @@ use crate::lists::List;
 use crate::model::{Answer, Attempt, Matrix, Opening, PLACES, Session, Vector};
 use crate::pass::{ETD2, QUESTIONS};
 use crate::random::Random;
-use crate::refused;
+use crate::refused::{self, Kind};
 use crate::script::Script;
 
 pub fn list() -> List {
@@ -438,10 +438,11 @@ fn bare_calls(script: &mut Script, random: &mut Random) {
     }
 }
 
-/// The inputs of docs/DIFFERENCES.md through the calls, for three schemes each.
+/// The inputs of docs/DIFFERENCES.md through the calls, for up to three of their schemes each.
 fn refusals_by_6(script: &mut Script) {
-    for (index, (_, input)) in refused::kinds().into_iter().enumerate() {
-        for scheme in [index % 16, 3, 15] {
+    for (index, Kind { input, schemes, .. }) in refused::kinds().into_iter().enumerate() {
+        for turn in 0..schemes.len().min(3) {
+            let scheme = schemes[(index + 5 * turn) % schemes.len()];
             let opening = Opening { time: input.time, ..opening(scheme, input.state, input.f0) };
             script.call(&Call::Open(opening));
             let mut told = match input.jacobian {
@@ -479,23 +480,15 @@ fn forged_past_a_refused_question(script: &mut Script) {
         script.call(&Call::Load(Box::new(session)));
         script.call(&accept(1.0));
     }
-    let huge = power_of_two(1023);
-    for scheme in [3, 4, 5] {
-        // A stage is asked for at an infinite state; with these answers the candidate is finite all the same.
-        let mut session = forged(scheme, huge, 0.0, &vec![0.0; QUESTIONS[scheme]]);
-        session.step = huge;
-        script.call(&Call::Load(Box::new(session.clone())));
-        script.call(&accept(0.0));
-        // A stage is asked for at an infinite time.
-        session.state[0] = 1.0;
+    // The third stage of Etdrk4 and HochOst4 is asked for at an infinite time.
+    for (scheme, answers) in [(4, 2), (4, 3), (5, 3), (5, 4)] {
+        let mut session = forged(scheme, 1.0, 0.0, &vec![0.0; answers]);
         session.derivative[0] = 0.0;
-        session.time = huge;
-        script.call(&Call::Load(Box::new(session.clone())));
-        script.call(&accept(0.0));
-        // One answer less: the next question would be in order, had the one before it not been refused.
-        session.count -= 1;
+        session.time = power_of_two(1023);
+        session.step = power_of_two(1023);
+        let ready = answers == QUESTIONS[scheme];
         script.call(&Call::Load(Box::new(session)));
-        script.call(&supply(0.0));
+        script.call(&if ready { accept(0.0) } else { supply(0.0) });
     }
     script.call(&Call::Show);
 }

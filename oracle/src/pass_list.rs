@@ -79,9 +79,9 @@ fn extreme(scheme: usize, n: usize, extremes: &[f64], random: &mut Random) -> Ru
 
 /// The inputs of docs/DIFFERENCES.md that come with a Jacobian.
 fn refused_kinds(scheme: usize) -> Vec<Run> {
-    let kinds = refused::kinds().into_iter();
-    kinds
-        .filter_map(|(_, input)| {
+    let inputs = refused::kinds().into_iter().map(|kind| kind.input);
+    inputs
+        .filter_map(|input| {
             let start = Start {
                 scheme,
                 time: input.time,

@@ -10,6 +10,7 @@ use oracle::model::{Answer, Attempt, Opening, PLACES, Session, Vector};
 use oracle::pass::ETD2;
 use oracle::random::Random;
 use oracle::random_script::random_script;
+use oracle::refused::{self, Kind};
 use oracle::{OdeProblem, SolveOptions, SolverStats, published};
 
 fn vector(values: &[f64]) -> Vector {
@@ -218,6 +219,127 @@ fn checks_run_in_the_order_of_document_01() {
     session.time = f64::MAX;
     session.step = f64::MAX;
     assert_eq!(session.clone().accept(&vector(&[1.0])).0, Answer::Refused(6));
+}
+
+fn open(scheme: u8, time: f64, state: f64, derivative: f64) -> Session {
+    let (answer, session) = Session::open(&Opening {
+        scheme,
+        n: 1,
+        history_held: false,
+        time,
+        relative: 1.0,
+        absolute: 1.0,
+        state: vector(&[state]),
+        derivative: vector(&[derivative]),
+        history: vector(&[]),
+    });
+    assert_eq!(answer, Answer::Resting);
+    session
+}
+
+fn begin(session: &Session, supplied: bool, step: f64, entries: &[f64], lent: usize) -> (Answer, Session) {
+    let mut jacobian = [0.0; PLACES * PLACES];
+    jacobian[..entries.len()].copy_from_slice(entries);
+    session.clone().begin(supplied, step, &jacobian, &mut vec![BEFORE; lent])
+}
+
+#[test]
+fn what_is_handed_in_is_checked_in_the_order_of_document_01() {
+    let session = open(2, 0.0, 1.0, 2.0);
+    let nan = f64::NAN;
+    for (number, (supplied, step, entries, lent)) in [
+        (1, (true, 0.0, &[nan, 1.0][..], 1)),
+        (1, (true, 0.0, &[nan], 2)),
+        (1, (false, 0.0, &[1.0], 1)),
+        (1, (false, 1.0, &[-0.0], 1)),
+        (5, (true, 0.0, &[nan], 1)),
+        (5, (false, f64::INFINITY, &[], 1)),
+        (3, (true, 1.0, &[nan], 1)),
+        (6, (true, 1.0, &[1e12], 1)),
+    ] {
+        let (answer, _) = begin(&session, supplied, step, entries, lent);
+        assert_eq!(answer, Answer::Refused(number));
+    }
+    let (_, asking) = begin(&session, true, 0.5, &[0.0], 1);
+    for (number, (values, lent)) in
+        [(1, (&[nan, 1.0][..], 1)), (1, (&[nan], 0)), (3, (&[nan], 1)), (6, (&[1e300], 1))]
+    {
+        let (answer, _) = asking.clone().supply(&vector(values), &mut vec![BEFORE; lent]);
+        assert_eq!(answer, Answer::Refused(number));
+    }
+    for (number, largest) in [(5, nan), (5, f64::EPSILON.next_down()), (5, f64::NEG_INFINITY)] {
+        assert_eq!(asking.clone().first_step(largest).0, Answer::Refused(number));
+    }
+    // Here 0.01 / scale is 0.01 / (2 / (1 + 1)).
+    assert_eq!(asking.clone().first_step(f64::INFINITY).0, Answer::FirstStep(0.01));
+    assert_eq!(asking.first_step(0.005).0, Answer::FirstStep(0.005));
+}
+
+/// Each kind of docs/DIFFERENCES.md is refused by 6, in the call in which the Rust would come to it.
+#[test]
+fn each_kind_is_refused_by_6_in_its_own_call() {
+    for Kind { name, input, schemes } in refused::kinds() {
+        for scheme in schemes.iter().copied() {
+            let session = open(scheme as u8, input.time, input.state, input.f0);
+            let entry = input.jacobian.map_or(vec![], |entry| vec![entry]);
+            let mut told = begin(&session, input.jacobian.is_some(), input.step, &entry, 1);
+            let mut calls = 1;
+            while let (Answer::Ask { .. }, session) = told {
+                let answer = input.answers[(calls - 1).min(input.answers.len() - 1)];
+                told = session.supply(&vector(&[answer]), &mut [BEFORE]);
+                calls += 1;
+            }
+            if let (Answer::Ready { .. }, session) = told {
+                assert_eq!(session.clone().accept(&vector(&[f64::NAN])).0, Answer::Refused(3));
+                told = session.accept(&vector(&[0.0]));
+                calls += 1;
+            }
+            assert_eq!(told.0, Answer::Refused(6), "{name}, scheme {scheme}");
+            let expected = match (name, scheme) {
+                ("a differenced Jacobian entry not finite", _) => 2,
+                ("J u not finite" | "f0 - J u not finite", _) => 1,
+                ("a row sum infinite, by an entry of h J", _) => 1,
+                // The first two stages are over half a step, and Exprb53s3's over less than the whole.
+                ("a row sum just above 2^31", 1 | 2 | 6 | 11 | 12 | 14 | 15) => 1,
+                ("a row sum just above 2^31", 3) => 2,
+                ("an asked state infinite, J zero", _) => 1,
+                ("an asked state infinite, in differencing", _) => 1,
+                ("an asked time not finite", 2 | 14) => 1,
+                ("an asked time not finite", 3 | 15) => 2,
+                ("an asked time not finite", 4 | 5) => 3,
+                ("a candidate not finite", _) => 1,
+                ("an error entry not finite", _) => 3,
+                ("the accepted time not finite", _) => 2,
+                _ => continue,
+            };
+            assert_eq!(calls, expected, "{name}, scheme {scheme}");
+        }
+    }
+}
+
+/// A session may hold answers past a question that would have been refused.
+#[test]
+fn every_node_of_a_forged_session_is_tested_again() {
+    let huge = oracle::bits::power_of_two(1023);
+    // Of HochOst4's four questions the third is at an infinite time.
+    let mut session = open(5, huge, 1.0, 0.0);
+    session.attempt = Attempt::Supplied;
+    session.step = huge;
+    session.count = 3;
+    let supply = |session: &Session| session.clone().supply(&vector(&[0.0]), &mut [BEFORE]).0;
+    assert_eq!(supply(&session), Answer::Refused(6));
+    session.time = 0.0;
+    assert_eq!(supply(&session), Answer::Ready { norm: 0.0, right_hand_sides: 4, jacobians: 1 });
+    // Etdrk2 past an exponential that is refused, its candidate finite.
+    let mut session = open(2, 0.0, 1.0, 1.0);
+    session.attempt = Attempt::Supplied;
+    session.step = 1.0;
+    session.count = 1;
+    session.answers[0][0] = 1.0;
+    session.jacobian[0] = -2147483650.0;
+    assert_eq!(session.clone().accept(&vector(&[0.0])).0, Answer::Refused(6));
+    session.jacobian[0] = -2147483640.0;
+    assert_eq!(session.accept(&vector(&[0.0])).0, Answer::Resting);
 }
 
 /// Flips the components of `mask` in a vector, or the entries of a matrix just one of whose row and column is in it.
