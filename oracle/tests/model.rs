@@ -6,7 +6,7 @@ use oracle::compare::first_difference;
 use oracle::console::{self, BEFORE, Call, Console, put_call, put_image, read_call};
 use oracle::field::Field;
 use oracle::fixed_script::fixed_script;
-use oracle::model::{Answer, Attempt, Opening, PLACES, Session, Vector};
+use oracle::model::{Answer, Attempt, Opening, PLACES, Session, Vector, bare_exponential, bare_phi_action};
 use oracle::pass::ETD2;
 use oracle::random::Random;
 use oracle::random_script::random_script;
@@ -270,6 +270,7 @@ fn what_is_handed_in_is_checked_in_the_order_of_document_01() {
     for (number, largest) in [(5, nan), (5, f64::EPSILON.next_down()), (5, f64::NEG_INFINITY)] {
         assert_eq!(asking.clone().first_step(largest).0, Answer::Refused(number));
     }
+    assert_eq!(asking.clone().first_step(f64::EPSILON).0, Answer::FirstStep(f64::EPSILON));
     // Here 0.01 / scale is 0.01 / (2 / (1 + 1)).
     assert_eq!(asking.clone().first_step(f64::INFINITY).0, Answer::FirstStep(0.01));
     assert_eq!(asking.first_step(0.005).0, Answer::FirstStep(0.005));
@@ -314,6 +315,66 @@ fn each_kind_is_refused_by_6_in_its_own_call() {
             };
             assert_eq!(calls, expected, "{name}, scheme {scheme}");
         }
+    }
+}
+
+#[test]
+fn a_differenced_column_is_tested_when_its_own_answer_is_in() {
+    let (_, session) = Session::open(&Opening {
+        scheme: 1,
+        n: 2,
+        history_held: false,
+        time: 0.0,
+        relative: 1.0,
+        absolute: 1.0,
+        state: vector(&[0.0, 0.0]),
+        derivative: vector(&[0.0, 0.0]),
+        history: vector(&[]),
+    });
+    let (_, asking) = begin(&session, false, 1.0, &[], 2);
+    let supply = |entry: f64| asking.clone().supply(&vector(&[0.0, entry]), &mut [BEFORE; 2]).0;
+    assert_eq!(supply(oracle::bits::power_of_two(998)), Answer::Refused(6));
+    assert_eq!(supply(oracle::bits::power_of_two(997)), Answer::Ask { time: 0.0 });
+}
+
+#[test]
+fn a_row_sum_of_2_to_the_31_is_admitted_and_the_next_double_is_not() {
+    let largest = oracle::bits::power_of_two(31);
+    let exponential = |entry: f64| bare_exponential(1, &[entry], &mut [BEFORE]);
+    assert_eq!(exponential(largest), Answer::Filled);
+    assert_eq!(exponential(-largest), Answer::Filled);
+    assert_eq!(exponential(largest.next_up()), Answer::Refused(6));
+    let phi = |input: f64| bare_phi_action(1, 1, 1.0, &[-0.5 * largest], &[input], &mut [BEFORE]);
+    assert_eq!(phi(0.5 * largest), Answer::Filled);
+    // The sum of the next double rounds to 2^31, that of the one after it does not.
+    assert_eq!(phi((0.5 * largest).next_up()), Answer::Filled);
+    assert_eq!(phi((0.5 * largest).next_up().next_up()), Answer::Refused(6));
+}
+
+#[test]
+fn a_resting_session_with_answers_is_refused_by_2() {
+    let mut session = open(2, 0.0, 1.0, 2.0);
+    session.count = 1;
+    assert_eq!(session.clone().drop_attempt().0, Answer::Refused(2));
+    session.answers[0][0] = 1.0;
+    assert_eq!(session.clone().drop_attempt().0, Answer::Refused(2));
+    // Past the count the place is not in use.
+    session.count = 0;
+    assert_eq!(session.drop_attempt().0, Answer::Refused(1));
+}
+
+#[test]
+fn drop_brings_back_the_session_as_it_was_before_begin() {
+    let (_, ready) = begin(&open(ETD2 as u8, 0.0, 1.0, 2.0), true, 0.5, &[-1.0], 1);
+    let (answer, resting) = ready.accept(&vector(&[1.5]));
+    assert_eq!(answer, Answer::Resting);
+    assert!(resting.history_held && resting.history[0] == 3.0);
+    for (supplied, entries) in [(true, &[-2.0][..]), (false, &[])] {
+        let (_, attempt) = begin(&resting, supplied, 0.25, entries, 1);
+        assert!(image(&attempt) != image(&resting));
+        let (answer, dropped) = attempt.drop_attempt();
+        assert_eq!(answer, Answer::Resting);
+        assert!(image(&dropped) == image(&resting));
     }
 }
 
@@ -465,7 +526,9 @@ fn a_script_ends_where_the_page_says() {
     put_call(&mut good, &Call::Drop);
     let reply = console::run(&good);
     assert_eq!(reply.len(), 18);
-    let ends: [&[u8]; 4] = [&[11], &[255], &[5, 0, 0], &[6, 1, 1, 2, 0, 2]];
+    let too_many = [&[6, 1, 1, 2, 1, 0][..], &[0; 513 * 8]].concat();
+    let too_long = [&[2][..], &[0; PLACES * 8], &[1, 2]].concat();
+    let ends: [&[u8]; 5] = [&[11], &[255], &[5, 0, 0], &too_many, &too_long];
     for end in ends {
         let script = [&good[..], end, &good].concat();
         assert_eq!(console::run(&script), reply);
