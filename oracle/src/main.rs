@@ -9,8 +9,8 @@ usage: oracle COMMAND
   refused           what the Rust does with each kind of input that document 01 refuses by 6
   order             the order of each scheme, seen as the step is halved
   lists FOLDER      writes the fixed lists below FOLDER: float_run, matrix_run, methods_run, console
-  lists --check FOLDER
-                    makes them anew and compares them with the files
+  lists --check FOLDER [NAME...]
+                    makes them anew, all or those named, and compares them with the files
   console           reads a script of calls (console.md) and writes the replies, by the model of document 01
   script SEED       writes a random script of about 1000 calls
   compare PROGRAM SCRIPTS [SEED]
@@ -23,8 +23,8 @@ fn main() {
         ["search"] => print(&oracle::search::report()),
         ["refused"] => print(&oracle::refused::report()),
         ["order"] => print(&oracle::order::report()),
-        ["lists", "--check", folder] => {
-            let (good, told) = oracle::lists::check(Path::new(folder)).unwrap_or_else(fail);
+        ["lists", "--check", folder, ref names @ ..] => {
+            let (good, told) = oracle::lists::check(Path::new(folder), names).unwrap_or_else(fail);
             print(&told);
             if !good {
                 std::process::exit(1);
