@@ -17,12 +17,7 @@ pub mod door {
         super::compute_jacobian(problem, state, time, f0, jacobian, stats)
     }
 
-    pub fn scaled_error_norm(
-        error: &[f64],
-        state: &[f64],
-        candidate: &[f64],
-        options: &SolveOptions,
-    ) -> f64 {
+    pub fn scaled_error_norm(error: &[f64], state: &[f64], candidate: &[f64], options: &SolveOptions) -> f64 {
         super::scaled_error_norm(error, state, candidate, options)
     }
 
@@ -89,8 +84,7 @@ pub mod door {
             time: f64,
             stats: &mut SolverStats,
         ) -> Result<(), SolveError> {
-            self.0
-                .accept_step(problem, &[], state, time, 0.0, false, stats)
+            self.0.accept_step(problem, &[], state, time, 0.0, false, stats)
         }
     }
 }

@@ -66,14 +66,9 @@ pub mod door {
         history: Option<&[f64]>,
         stats: &mut SolverStats,
     ) -> Result<Pass, SolveError> {
-        let result = methods::perform_step(
-            SCHEMES[scheme], problem, state, time, step, f0, jacobian, history, stats,
-        )?;
-        Ok(Pass {
-            candidate: result.state,
-            error: result.error,
-            nonlinear: result.current_nonlinear,
-        })
+        let result =
+            methods::perform_step(SCHEMES[scheme], problem, state, time, step, f0, jacobian, history, stats)?;
+        Ok(Pass { candidate: result.state, error: result.error, nonlinear: result.current_nonlinear })
     }
 
     pub fn matrix_exp(matrix: &[f64], size: usize) -> Vec<f64> {

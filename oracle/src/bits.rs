@@ -2,19 +2,11 @@
 
 /// The pattern that crosses a pipe: a NaN's payload is open, so every NaN is written the same.
 pub fn pattern(x: f64) -> u64 {
-    if x.is_nan() {
-        0x7ff8_0000_0000_0000
-    } else {
-        x.to_bits()
-    }
+    if x.is_nan() { 0x7ff8_0000_0000_0000 } else { x.to_bits() }
 }
 
 pub fn same(left: &[f64], right: &[f64]) -> bool {
-    left.len() == right.len()
-        && left
-            .iter()
-            .zip(right)
-            .all(|(l, r)| pattern(*l) == pattern(*r))
+    left.len() == right.len() && left.iter().zip(right).all(|(l, r)| pattern(*l) == pattern(*r))
 }
 
 /// 2 to a power from -1074 to 1023, exactly.
@@ -43,6 +35,9 @@ pub fn show(x: f64) -> String {
     let magnitude = x.abs();
     if magnitude == f64::MAX {
         return format!("{sign}(2^1024 - 2^971)");
+    }
+    if magnitude.is_subnormal() && magnitude.to_bits().is_power_of_two() {
+        return format!("{sign}2^{}", magnitude.to_bits().trailing_zeros() as i32 - 1074);
     }
     for places in -1..=1 {
         let neighbour = above(magnitude, -places);

@@ -25,11 +25,16 @@ impl Field {
         }
     }
 
+    pub fn dimension(&self) -> usize {
+        self.n
+    }
+
     /// f_i = sum_j A_ij u_j + c_i u_i u_(i+1) / (1 + u_i^2) + d_i t
     pub fn at(&self, time: f64, u: &[f64]) -> Vec<f64> {
         (0..self.n)
             .map(|i| {
-                let linear: f64 = (0..self.n).map(|j| self.linear[i * self.n + j] * u[j]).sum();
+                let row = &self.linear[i * self.n..(i + 1) * self.n];
+                let linear = row.iter().zip(u).fold(0.0, |sum, (a, u)| sum + a * u);
                 let next = u[(i + 1) % self.n];
                 linear + self.curve[i] * u[i] * next / (1.0 + u[i] * u[i]) + self.drive[i] * time
             })

@@ -75,7 +75,7 @@ fn special() -> Vec<f64> {
 fn near_midpoints(random: &mut Random, count: usize) -> Vec<f64> {
     let mut found = Vec::new();
     for _ in 0..count {
-        let m = (1u128 << 52) | (random.next() >> 12) as u128;
+        let m = (1u128 << 52) | (random.draw() >> 12) as u128;
         let square = (2 * m + 1) * (2 * m + 1);
         let root_exponent = 2 * (random.below(200) as i32 - 100);
         let mut x = square as f64;
@@ -104,7 +104,7 @@ fn arguments_of_the_root(random: &mut Random) -> Vec<f64> {
     }
     list.extend(near_midpoints(random, 300));
     for _ in 0..600 {
-        list.push(f64::from_bits(random.next() >> (12 + random.below(52))));
+        list.push(f64::from_bits(random.draw() >> (12 + random.below(52))));
     }
     for _ in 0..4000 {
         let x = random.any_pattern();
@@ -147,10 +147,5 @@ pub fn list() -> List {
         put_double(&mut input, *y);
         output.extend(reply(*op, *x, *y).to_le_bytes());
     }
-    List {
-        name: "float_run",
-        input,
-        output,
-        summary: format!("{} records", records.len()),
-    }
+    List { name: "float_run", input, output, summary: format!("{} records", records.len()) }
 }

@@ -7,16 +7,22 @@ mod stand_ins;
 
 pub mod bits;
 pub mod bytes;
+pub mod compare;
+pub mod console;
 pub mod exact;
 pub mod field;
+pub mod fixed_script;
 mod float_list;
 pub mod lists;
 mod matrix_list;
+pub mod model;
 pub mod order;
 pub mod pass;
 mod pass_list;
 pub mod random;
+pub mod random_script;
 pub mod refused;
+pub mod script;
 pub mod search;
 pub mod watch;
 

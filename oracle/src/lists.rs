@@ -1,6 +1,6 @@
 //! The fixed lists: what goes into a program of the port, and what must come out of it.
 
-use crate::{float_list, matrix_list, pass_list};
+use crate::{fixed_script, float_list, matrix_list, pass_list};
 use std::io;
 use std::path::Path;
 
@@ -13,7 +13,7 @@ pub struct List {
 }
 
 pub fn all() -> Vec<List> {
-    vec![float_list::list(), matrix_list::list(), pass_list::list()]
+    vec![float_list::list(), matrix_list::list(), pass_list::list(), fixed_script::list()]
 }
 
 /// Writes each list to its folder below `folder`.
@@ -29,11 +29,15 @@ pub fn write(folder: &Path) -> io::Result<String> {
     Ok(told)
 }
 
-/// Whether the files below `folder` are the lists, byte for byte.
-pub fn check(folder: &Path) -> io::Result<(bool, String)> {
+/// Whether the files below `folder` are the lists of these names, byte for byte; all lists if none is named.
+pub fn check(folder: &Path, names: &[&str]) -> io::Result<(bool, String)> {
     let mut told = String::new();
     let mut good = true;
-    for list in all() {
+    let lists = all();
+    if let Some(name) = names.iter().find(|name| !lists.iter().any(|list| list.name == **name)) {
+        return Ok((false, format!("there is no list {name}\n")));
+    }
+    for list in lists.iter().filter(|list| names.is_empty() || names.contains(&list.name)) {
         for (file, bytes) in [("stdin", &list.input), ("stdout", &list.output)] {
             let path = folder.join(list.name).join(file);
             if std::fs::read(&path)? != *bytes {
@@ -41,7 +45,7 @@ pub fn check(folder: &Path) -> io::Result<(bool, String)> {
                 good = false;
             }
         }
-        told += &line(&list);
+        told += &line(list);
     }
     Ok((good, told))
 }

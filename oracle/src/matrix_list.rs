@@ -38,11 +38,7 @@ fn one_by_one() -> Vec<Matrix> {
         }
     }
     values.extend([power_of_two(40), power_of_two(1022) * 1.5, f64::MAX, f64::INFINITY, f64::NAN]);
-    values
-        .iter()
-        .flat_map(|x| [*x, -x])
-        .map(|x| Matrix::zero(1).with(0, 0, x))
-        .collect()
+    values.iter().flat_map(|x| [*x, -x]).map(|x| Matrix::zero(1).with(0, 0, x)).collect()
 }
 
 /// 2x2 and 3x3 matrices one of whose row sums is a power of two or its neighbour, by several entries.
@@ -79,7 +75,7 @@ fn of_size(size: usize, random: &mut Random) -> Vec<Matrix> {
         stiff(size, random),
         // Above the diagonal alone: a power of it is zero.
         nilpotent(size, random),
-        Matrix::filled(size, || f64::from_bits(random.next() >> 12)),
+        Matrix::filled(size, || f64::from_bits(random.draw() >> 12)),
         // Overflows on the way.
         Matrix::filled(size, || 900.0 * random.unit()).with(0, last, 1000.0).with(last, 0, 1000.0),
         Matrix::filled(size, || random.unit() * power_of_two(26)),
@@ -162,10 +158,5 @@ pub fn list() -> List {
         "{} matrices, {refused} refused, {not_finite} with entries that are not finite",
         matrices.len()
     );
-    List {
-        name: "matrix_run",
-        input,
-        output,
-        summary,
-    }
+    List { name: "matrix_run", input, output, summary }
 }

@@ -40,22 +40,13 @@ fn field(u: &[f64]) -> [f64; 2] {
 fn field_jacobian(u: &[f64]) -> [f64; 4] {
     let square = u[0] * u[0] + u[1] * u[1];
     let cross = 2.0 * u[0] * u[1];
-    [
-        1.0 - square - 2.0 * u[0] * u[0],
-        -1.0 - cross,
-        1.0 - cross,
-        1.0 - square - 2.0 * u[1] * u[1],
-    ]
+    [1.0 - square - 2.0 * u[0] * u[0], -1.0 - cross, 1.0 - cross, 1.0 - square - 2.0 * u[1] * u[1]]
 }
 
 /// g and its first two derivatives.
 fn path(t: f64) -> [[f64; 2]; 3] {
     let (sine, cosine) = (2.0 * t).sin_cos();
-    [
-        [0.5 * cosine, 0.5 * sine],
-        [-sine, cosine],
-        [-2.0 * cosine, -2.0 * sine],
-    ]
+    [[0.5 * cosine, 0.5 * sine], [-sine, cosine], [-2.0 * cosine, -2.0 * sine]]
 }
 
 fn drive(t: f64) -> [f64; 2] {
@@ -67,10 +58,7 @@ fn drive(t: f64) -> [f64; 2] {
 fn drive_slope(t: f64) -> [f64; 2] {
     let [g, slope, bend] = path(t);
     let by_u = field_jacobian(&g);
-    [
-        bend[0] - by_u[0] * slope[0] - by_u[1] * slope[1],
-        bend[1] - by_u[2] * slope[0] - by_u[3] * slope[1],
-    ]
+    [bend[0] - by_u[0] * slope[0] - by_u[1] * slope[1], bend[1] - by_u[2] * slope[0] - by_u[3] * slope[1]]
 }
 
 impl Problem {
@@ -105,9 +93,7 @@ impl Problem {
             return by_u.to_vec();
         }
         let by_time = drive_slope(u[2]);
-        vec![
-            by_u[0], by_u[1], by_time[0], by_u[2], by_u[3], by_time[1], 0.0, 0.0, 0.0,
-        ]
+        vec![by_u[0], by_u[1], by_time[0], by_u[2], by_u[3], by_time[1], 0.0, 0.0, 0.0]
     }
 }
 
@@ -127,7 +113,15 @@ pub fn error(scheme: usize, problem: Problem, given: Given, steps: usize) -> f64
             Given::Constant => LINEAR.to_vec(),
         };
         let pass = published::perform_step(
-            scheme, &ode, state, time, step, &f0, &jacobian, history.as_deref(), &mut stats,
+            scheme,
+            &ode,
+            state,
+            time,
+            step,
+            &f0,
+            &jacobian,
+            history.as_deref(),
+            &mut stats,
         )
         .expect("every number stays finite");
         if scheme == ETD2 {
@@ -137,11 +131,7 @@ pub fn error(scheme: usize, problem: Problem, given: Given, steps: usize) -> f64
     })
 }
 
-fn error_by(
-    problem: Problem,
-    steps: usize,
-    mut advance: impl FnMut(f64, f64, &[f64]) -> Vec<f64>,
-) -> f64 {
+fn error_by(problem: Problem, steps: usize, mut advance: impl FnMut(f64, f64, &[f64]) -> Vec<f64>) -> f64 {
     let step = END / steps as f64;
     let mut state = problem.exact(0.0);
     for index in 0..steps {

@@ -56,9 +56,7 @@ fn arbitrary(scheme: usize, n: usize, magnitude: f64, step: f64, random: &mut Ra
     start.state = vector(n, || magnitude * random.unit());
     start.f0 = vector(n, || magnitude * random.unit());
     start.jacobian = vector(n * n, || 4.0 * random.unit());
-    let answers = (0..QUESTIONS[scheme])
-        .map(|_| vector(n, || magnitude * random.unit()))
-        .collect();
+    let answers = (0..QUESTIONS[scheme]).map(|_| vector(n, || magnitude * random.unit())).collect();
     Run { start, answers }
 }
 
@@ -81,9 +79,9 @@ fn extreme(scheme: usize, n: usize, extremes: &[f64], random: &mut Random) -> Ru
 
 /// The inputs of docs/DIFFERENCES.md that come with a Jacobian.
 fn refused_kinds(scheme: usize) -> Vec<Run> {
-    let kinds = refused::kinds().into_iter();
-    kinds
-        .filter_map(|(_, input)| {
+    let inputs = refused::kinds().into_iter().map(|kind| kind.input);
+    inputs
+        .filter_map(|input| {
             let start = Start {
                 scheme,
                 time: input.time,
@@ -115,6 +113,16 @@ fn example(scheme: usize, step: f64, sign: f64, history: Option<f64>) -> Run {
     Run { start, answers }
 }
 
+/// A phi action of f0 = 1 over the whole step has the double just above 8 for its norm, where the published squaring
+/// count is one less.
+fn above_8(scheme: usize) -> Run {
+    let mut run = example(scheme, 1.0, 1.0, None);
+    run.start.state = vec![0.0];
+    run.start.f0 = vec![1.0];
+    run.start.jacobian = vec![1.0 - 8.0_f64.next_up()];
+    run
+}
+
 /// Runs whose every number of answers is listed.
 fn in_full(scheme: usize, random: &mut Random) -> Vec<Run> {
     let mut runs = Vec::new();
@@ -127,6 +135,7 @@ fn in_full(scheme: usize, random: &mut Random) -> Vec<Run> {
     }
     runs.push(smooth(scheme, 16, 2000.0, 0.03, random));
     runs.push(example(scheme, 1.0, 1.0, None));
+    runs.push(above_8(scheme));
     if scheme == ETD2 {
         runs.push(example(scheme, 1.0, 1.0, Some(1.0)));
     }
@@ -136,10 +145,7 @@ fn in_full(scheme: usize, random: &mut Random) -> Vec<Run> {
 /// Runs of which two numbers of answers are listed: all there are, and one at random.
 fn in_part(scheme: usize, random: &mut Random) -> Vec<Run> {
     let mut runs = refused_kinds(scheme);
-    runs.extend([
-        example(scheme, 0.5, 1.0, None),
-        example(scheme, 1.0, -1.0, None),
-    ]);
+    runs.extend([example(scheme, 0.5, 1.0, None), example(scheme, 1.0, -1.0, None)]);
     for n in [1, 2, 3, 5] {
         for (magnitude, step) in [
             (1.0, 1.0),
@@ -209,7 +215,7 @@ pub fn list() -> List {
     let mut input = Vec::new();
     let mut output = Vec::new();
     let mut counts = [[0usize; 3]; 16];
-    for scheme in 0..16 {
+    for (scheme, count) in counts.iter_mut().enumerate() {
         let mut add = |run: &Run, given: usize| {
             let answers = &run.answers[..given];
             let outcome = pass::run(&run.start, answers);
@@ -220,7 +226,7 @@ pub fn list() -> List {
                 Outcome::Ask { .. } => 1,
                 Outcome::Candidate(_) => 2,
             };
-            counts[scheme][kind] += 1;
+            count[kind] += 1;
         };
         for run in in_full(scheme, &mut random) {
             for given in 0..=run.answers.len() {
@@ -236,9 +242,8 @@ pub fn list() -> List {
         }
     }
     // Every scheme must be seen to refuse, to end and, if it asks, to ask.
-    for scheme in 0..16 {
-        let [refused, asks, ends] = counts[scheme];
-        assert!(refused > 0 && ends > 0 && (asks > 0) == (QUESTIONS[scheme] > 0));
+    for ([refused, asks, ends], questions) in counts.iter().zip(QUESTIONS) {
+        assert!(*refused > 0 && *ends > 0 && (*asks > 0) == (questions > 0));
     }
     let total = |kind: usize| counts.iter().map(|of| of[kind]).sum::<usize>();
     List {

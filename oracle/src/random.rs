@@ -7,7 +7,7 @@ impl Random {
         Self(seed)
     }
 
-    pub fn next(&mut self) -> u64 {
+    pub fn draw(&mut self) -> u64 {
         self.0 = self.0.wrapping_add(0x9e37_79b9_7f4a_7c15);
         let mut z = self.0;
         z = (z ^ (z >> 30)).wrapping_mul(0xbf58_476d_1ce4_e5b9);
@@ -17,7 +17,7 @@ impl Random {
 
     /// A whole number from 0 up to, not including, the bound.
     pub fn below(&mut self, bound: usize) -> usize {
-        (self.next() % bound as u64) as usize
+        (self.draw() % bound as u64) as usize
     }
 
     pub fn chance(&mut self, one_in: usize) -> bool {
@@ -30,12 +30,12 @@ impl Random {
 
     /// A double in [-1, 1).
     pub fn unit(&mut self) -> f64 {
-        (self.next() >> 11) as f64 / (1u64 << 52) as f64 - 1.0
+        (self.draw() >> 11) as f64 / (1u64 << 52) as f64 - 1.0
     }
 
     /// Any pattern at all.
     pub fn any_pattern(&mut self) -> f64 {
-        f64::from_bits(self.next())
+        f64::from_bits(self.draw())
     }
 
     /// A finite double of any magnitude.

@@ -9,20 +9,12 @@ pub const PUBLISHED_LINE: &str = "(norm / 0.5).log2().ceil() as u32";
 
 /// The published count, by that line.
 pub fn published_squarings(norm: f64) -> u32 {
-    if norm <= 0.5 {
-        0
-    } else {
-        (norm / 0.5).log2().ceil() as u32
-    }
+    if norm <= 0.5 { 0 } else { (norm / 0.5).log2().ceil() as u32 }
 }
 
 /// The count of step 2, for a norm up to 2^31.
 pub fn exact_squarings(norm: f64) -> u32 {
-    if norm <= 0.5 {
-        0
-    } else {
-        exact::squarings(norm)
-    }
+    if norm <= 0.5 { 0 } else { exact::squarings(norm) }
 }
 
 /// How many neighbours on each side of a power of two are tried.
@@ -45,13 +37,28 @@ fn exponential_differs(x: f64) -> bool {
     !bits::same(&ours, &theirs)
 }
 
+/// The derivatives tried in [`differing_step`].
+const DERIVATIVES: [f64; 6] = [1.0, 0.5, 2.0, 0.25, 1.5, 0.75];
+
+/// A step of NorsettEuler whose augmented matrix has this norm and whose candidate differs: n = 1, u = 0, h = 1,
+/// J = [f0 - norm]. Gives f0.
+pub fn differing_step(norm: f64) -> Option<f64> {
+    DERIVATIVES.into_iter().find(|f0| {
+        let jacobian = [f0 - norm];
+        let ours = compared::phi_action(&jacobian, 1.0, 1, &[*f0]);
+        let theirs = published::phi_action(&jacobian, 1.0, 1, &[*f0]);
+        jacobian[0].abs() + f0 == norm && !bits::same(&ours, &theirs)
+    })
+}
+
 /// Every norm found, smallest first, as a table.
 pub fn report() -> String {
     let mut lines = vec![
         "Squaring counts of the 1x1 matrices [x] and [-x]: the published line, and step 2.".into(),
+        "A step: NorsettEuler, n = 1, u = 0, step 1, J = [f0 - x], whose augmented matrix has norm x.".into(),
         format!("Tried: each power of two from 2^-1 to 2^31 with {NEIGHBOURS} neighbours on each side."),
         String::new(),
-        "x                 pattern             line  step 2  exp [x]  exp [-x]".into(),
+        "x                 pattern             line  step 2  exp [x]  exp [-x]  a step".into(),
     ];
     let mut total = 0;
     let mut in_bits = 0;
@@ -60,13 +67,14 @@ pub fn report() -> String {
             let word = |differs| if differs { "differs" } else { "same" };
             let (plus, minus) = (exponential_differs(x), exponential_differs(-x));
             lines.push(format!(
-                "{:<17} {:#018x}  {:<4}  {:<6}  {:<7}  {}",
+                "{:<17} {:#018x}  {:<4}  {:<6}  {:<7}  {:<8}  {}",
                 name(x, k),
                 x.to_bits(),
                 published_squarings(x),
                 exact_squarings(x),
                 word(plus),
-                word(minus)
+                word(minus),
+                differing_step(x).map_or("none found".into(), |f0| format!("differs at f0 = {f0}")),
             ));
             total += 1;
             in_bits += usize::from(plus || minus);
@@ -86,10 +94,7 @@ pub fn report() -> String {
     ] {
         let count = published_squarings(norm);
         let divisor = 2.0_f64.powi(count as i32);
-        lines.push(format!(
-            "  {words}, {:#018x}: {count} squarings, divisor {divisor:?}",
-            norm.to_bits()
-        ));
+        lines.push(format!("  {words}, {:#018x}: {count} squarings, divisor {divisor:?}", norm.to_bits()));
     }
     lines.join("\n") + "\n"
 }

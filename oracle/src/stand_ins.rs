@@ -46,20 +46,12 @@ pub struct OdeProblem<F, P> {
 impl<F> OdeProblem<F, ()> {
     /// A problem whose Jacobian is differenced.
     pub fn new(rhs: F) -> Self {
-        Self {
-            rhs,
-            parameters: (),
-            jacobian: None,
-        }
+        Self { rhs, parameters: (), jacobian: None }
     }
 
     /// A problem whose user writes these numbers, row by row, whenever the Jacobian is asked for.
     pub fn with_jacobian(rhs: F, jacobian: Vec<f64>) -> Self {
-        Self {
-            rhs,
-            parameters: (),
-            jacobian: Some(jacobian),
-        }
+        Self { rhs, parameters: (), jacobian: Some(jacobian) }
     }
 }
 
@@ -102,11 +94,7 @@ pub struct SolveOptions {
 
 impl SolveOptions {
     pub fn tolerances(relative: f64, absolute: f64) -> Self {
-        Self {
-            absolute_tolerance: absolute,
-            relative_tolerance: relative,
-            adaptive: true,
-        }
+        Self { absolute_tolerance: absolute, relative_tolerance: relative, adaptive: true }
     }
 }
 

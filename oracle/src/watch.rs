@@ -13,9 +13,7 @@ thread_local! {
 /// Whether every row sum of absolute values, from its first item on, is finite and at most 2^31.
 pub fn admits(matrix: &[f64], size: usize) -> bool {
     matrix.chunks(size).all(|row| {
-        let sum = row[1..]
-            .iter()
-            .fold(row[0].abs(), |sum, entry| sum + entry.abs());
+        let sum = row[1..].iter().fold(row[0].abs(), |sum, entry| sum + entry.abs());
         sum <= LARGEST_NORM
     })
 }

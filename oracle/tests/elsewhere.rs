@@ -75,3 +75,28 @@ fn the_sign_of_a_zero_candidate_hangs_on_where_a_sum_starts() {
     let candidate = step(13, &[0.0], &[-0.0], &[0.0], -1.0).unwrap();
     assert_eq!(candidate[0].to_bits(), (-0.0_f64).to_bits());
 }
+
+/// The Rust moves Etd2's history, and its derivative, before it tests the derivative at the candidate.
+#[test]
+fn a_refused_acceptance_leaves_the_kernel_changed() {
+    let bad = std::cell::Cell::new(false);
+    let rhs = |derivative: &mut [f64], _: &[f64], _: &(), _: f64| {
+        derivative[0] = if bad.get() { f64::NAN } else { 2.0 };
+        Ok(())
+    };
+    let problem = OdeProblem::with_jacobian(rhs, vec![0.0]);
+    let options = SolveOptions::tolerances(1.0, 1.0);
+    let mut stats = SolverStats::default();
+    let mut kernel = published::kernel(1, 13);
+    let mut candidate = [0.0];
+    kernel.initialize(&problem, &[1.0], 0.0, &mut stats).unwrap();
+    let mut attempt = |kernel: &mut published::Kernel, stats: &mut SolverStats| {
+        kernel.attempt_step(&problem, &[1.0], 0.0, 1.0, &mut candidate, &options, stats)
+    };
+    assert_eq!(attempt(&mut kernel, &mut stats), Ok(0.0));
+    bad.set(true);
+    assert!(kernel.accept_step(&problem, &[3.0], 1.0, &mut stats).is_err());
+    bad.set(false);
+    // The same attempt again, from the same state.
+    assert!(attempt(&mut kernel, &mut stats).is_err());
+}

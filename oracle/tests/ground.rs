@@ -100,7 +100,9 @@ fn the_counts_differ_from_the_double_above_8_on() {
         assert!(search::differing_norms(k).is_empty());
     }
     for k in 3..=30 {
-        assert_eq!(search::differing_norms(k)[0], power_of_two(k).next_up());
+        let norm = power_of_two(k).next_up();
+        assert_eq!(search::differing_norms(k)[0], norm);
+        assert!(search::differing_step(norm).is_some());
     }
     assert!(search::other_norms().is_empty());
     assert_eq!(search::published_squarings(8.0_f64.next_up()), 4);

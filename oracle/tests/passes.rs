@@ -4,7 +4,6 @@ use oracle::bits::same;
 use oracle::field::Field;
 use oracle::pass::{self, ETD2, Outcome, QUESTIONS, Start};
 use oracle::random::Random;
-use oracle::refused;
 use oracle::{OdeProblem, SolverStats, published};
 use std::cell::RefCell;
 
@@ -95,30 +94,6 @@ fn the_examples_of_document_01_come_out() {
     assert_eq!(candidate(0, 1.0, 1.0, None), 3.0);
     assert_eq!(candidate(ETD2, 1.0, 1.0, None), 3.0);
     assert_eq!(candidate(ETD2, 1.0, 1.0, Some(1.0)), 3.5);
-}
-
-#[test]
-fn each_kind_of_docs_differences_is_refused() {
-    for (kind, input) in refused::kinds() {
-        let Some(entry) = input.jacobian else {
-            continue;
-        };
-        let refused = (0..16).any(|scheme| {
-            let start = Start {
-                scheme,
-                time: input.time,
-                step: input.step,
-                state: vec![input.state],
-                f0: vec![input.f0],
-                jacobian: vec![entry],
-                history: None,
-            };
-            let answer = |k: usize| vec![input.answers[k.min(input.answers.len() - 1)]];
-            let answers: Vec<_> = (0..QUESTIONS[scheme]).map(answer).collect();
-            matches!(pass::run(&start, &answers), Outcome::Refused)
-        });
-        assert!(refused, "{kind}");
-    }
 }
 
 #[test]
