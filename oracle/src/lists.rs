@@ -16,10 +16,20 @@ pub fn all() -> Vec<List> {
     vec![float_list::list(), matrix_list::list(), pass_list::list(), fixed_script::list()]
 }
 
+/// The lists of these names, in their own order; all of them if none is named.
+fn named(names: &[&str]) -> io::Result<Vec<List>> {
+    let mut lists = all();
+    if let Some(name) = names.iter().find(|name| !lists.iter().any(|list| list.name == **name)) {
+        return Err(io::Error::other(format!("there is no list {name}")));
+    }
+    lists.retain(|list| names.is_empty() || names.contains(&list.name));
+    Ok(lists)
+}
+
 /// Writes each list to its folder below `folder`.
-pub fn write(folder: &Path) -> io::Result<String> {
+pub fn write(folder: &Path, names: &[&str]) -> io::Result<String> {
     let mut told = String::new();
-    for list in all() {
+    for list in named(names)? {
         let place = folder.join(list.name);
         std::fs::create_dir_all(&place)?;
         std::fs::write(place.join("stdin"), &list.input)?;
@@ -29,15 +39,11 @@ pub fn write(folder: &Path) -> io::Result<String> {
     Ok(told)
 }
 
-/// Whether the files below `folder` are the lists of these names, byte for byte; all lists if none is named.
+/// Whether the files below `folder` are the lists, byte for byte.
 pub fn check(folder: &Path, names: &[&str]) -> io::Result<(bool, String)> {
     let mut told = String::new();
     let mut good = true;
-    let lists = all();
-    if let Some(name) = names.iter().find(|name| !lists.iter().any(|list| list.name == **name)) {
-        return Ok((false, format!("there is no list {name}\n")));
-    }
-    for list in lists.iter().filter(|list| names.is_empty() || names.contains(&list.name)) {
+    for list in named(names)? {
         for (file, bytes) in [("stdin", &list.input), ("stdout", &list.output)] {
             let path = folder.join(list.name).join(file);
             if std::fs::read(&path)? != *bytes {
@@ -45,7 +51,7 @@ pub fn check(folder: &Path, names: &[&str]) -> io::Result<(bool, String)> {
                 good = false;
             }
         }
-        told += &line(list);
+        told += &line(&list);
     }
     Ok((good, told))
 }

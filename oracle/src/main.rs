@@ -8,9 +8,11 @@ usage: oracle COMMAND
   search            the norms on which the published squaring count and document 01's step 2 differ
   refused           what the Rust does with each kind of input that document 01 refuses by 6
   order             the order of each scheme, seen as the step is halved
-  lists FOLDER      writes the fixed lists below FOLDER: float_run, matrix_run, methods_run, console
+  lists FOLDER [NAME...]
+                    writes the fixed lists, all or those named, below FOLDER:
+                    float_run, matrix_run, methods_run, console
   lists --check FOLDER [NAME...]
-                    makes them anew, all or those named, and compares them with the files
+                    makes them anew and compares them with the files
   console           reads a script of calls (console.md) and writes the replies, by the model of document 01
   script SEED       writes a random script of about 1000 calls
   compare PROGRAM SCRIPTS [SEED]
@@ -30,7 +32,9 @@ fn main() {
                 std::process::exit(1);
             }
         }
-        ["lists", folder] => print(&oracle::lists::write(Path::new(folder)).unwrap_or_else(fail)),
+        ["lists", folder, ref names @ ..] => {
+            print(&oracle::lists::write(Path::new(folder), names).unwrap_or_else(fail));
+        }
         ["console"] => {
             let mut script = Vec::new();
             std::io::stdin().read_to_end(&mut script).unwrap_or_else(fail);

@@ -137,7 +137,7 @@ impl Host {
 
     fn opening(&mut self) -> Opening {
         let random = &mut self.random;
-        let n = random.pick(&[1, 1, 1, 1, 2, 2, 2, 3, 3, 4, 5, 6, 8, 11, 16]);
+        let n = if random.chance(4) { 1 + random.below(PLACES) } else { random.pick(&[1, 1, 2, 2, 3]) };
         let scheme = if random.chance(6) { ETD2 } else { random.below(16) };
         let stiffness = random.pick(&[0.0, 1.0, 1.0, 30.0, 1e3, 1e5, 1e8, 1e12]);
         self.field = Field::new(n, stiffness, random);
