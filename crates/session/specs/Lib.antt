@@ -1,3 +1,4 @@
 pub mod Session
 pub mod Calls
 pub mod Bare
+pub mod Refusals
