@@ -32,6 +32,10 @@ no-nan nan h = absurd (subst T h tt)
 no-nan (inf s) h = tt
 no-nan (fin s m e) h = tt
 
+pub nan-pattern : (x : Float) → ne x x ≡ true → 0x7ff8_0000_0000_0000 ≡ toBits binary64 x
+unfolding toBits
+nan-pattern x h = ap (toBits binary64) (sym (differs-from-itself x (subst T (sym h) tt)))
+
 pub zero-by-zero : div binary64 (ofBits binary64 0) (ofBits binary64 0) ≡ nan
 unfolding div ofBits ofFields odd
 zero-by-zero = refl

@@ -2,28 +2,29 @@
 -- is no subnormal. And the root of any double fits. Assumes nothing.
 use mathlib.Core.Path.{_≡_, refl, sym, ap, _∙_, subst}
 use Prim.Native.Nat.{ℕ, zero, suc, _+_, _-_, _*_, _/_, _%_, _^_, _≤_, _<_}
-use native.Mathlib.Nat.{zero-lt-suc, lt-of-lt-of-le, lt-of-not-le, mul-one, mul-le-mul, pow-le-pow-left, eq-zero-or-pos, add-sub-of-le}
+use native.Mathlib.Decide.{decLe}
+use native.Mathlib.Nat.{le-trans, le-of-eq, le-antisymm, le-of-mul-le-mul-right, mul-le-mul-left, mul-assoc, mul-comm, sub-add-cancel, pow-suc, zero-lt-suc, lt-of-lt-of-le, lt-of-not-le, mul-one, mul-le-mul, pow-le-pow-left, eq-zero-or-pos, add-sub-of-le}
 use native.Mathlib.Omega.{arith}
-use mathlib.Core.Logic.{⊎-elim}
+use mathlib.Core.Logic.{⊎-elim, inl, inr}
 use mathlib.Core.Bool.{Bool, true, false, not, cond}
 use lib.Dec.{T, leb, ltb, eqb, ltb→lt, lt→ltb, nltb→le, le→leb, lit≤}
 use lib.Count.{leadingZeros}
-use lib.Pow.{pow-pos}
+use lib.Pow.{pow-add, pow-pos}
+use lib.IntN.{ℤ}
 use lib.Ieee.{Float, nan, inf, fin, binary64, up, down, size, odd, fits, ofFields, ofBits, toBits}
 use lib.Ieee.Bits.{is-true, ofBits-toBits, toBits-lt}
 use lib.Ieee.Digits.{size-lt}
 use lib.Ieee.Fits.{nan-fits, inf-fits}
 use lib.Ieee.Exact.{HasValue, odd-sign}
 use lib.Ieee.Positive.{positive}
-use Rattle.float.specs.Root.{square, floorRoot, root, inSquares}
-use Rattle.float.proofs.Square.{square-suc, floor-is}
+use Rattle.float.specs.Root.{square, floorRoot, root, sqrt, inUnits, inSquares, Reaches, Enclosed, IsRoot}
+use Rattle.float.proofs.Square.{square-suc, square-odd, square-mul, square-mono, floor-is}
 use Rattle.float.specs.Digits.{Rooted, Split, Halved, squaresOf}
 use Rattle.float.proofs.Steps.{low-is, high-is, unpack-low, unpack-high, halve-even, halve-odd}
 use Rattle.float.proofs.Bits.{ofBits-is, plus, reads-low, reads-high}
 use Rattle.float.proofs.Midway.{in-squares}
 use Rattle.float.proofs.Strict.{Strict, parts-enclosed, parts-root, parts-power}
 use Rattle.float.proofs.Cases.{root-of-bits}
-use Rattle.float.specs.Root.{inUnits}
 use Rattle.float.proofs.Nearest.{NearestTo, odd-units, fits-in, odd-positive, enclosed-nearest, nearest-only}
 
 -- ---- the pattern of a double that is above zero and finite
@@ -176,3 +177,130 @@ root-fits (inf false) f = inf-fits binary64 false
 root-fits (fin s zero e) f = f
 root-fits (fin true (suc m) e) f = nan-fits binary64
 root-fits (fin false (suc m) e) f = root-nearest (fin false (suc m) e) f (lt→ltb 0 (suc m) (zero-lt-suc m)) .held
+
+-- ---- no double's root lies midway between two doubles, so the tie rule of `Enclosed` is never called on
+no-tie : (o c i e : ℕ) → o % 2 ≡ 1 → c < o → o * 2 ^ i ≡ c * 2 ^ e → ⊥
+no-tie o c i e h l t = go (decLe e i)
+  where
+    even : (y d : ℕ) → y * 2 ^ suc d % 2 ≡ 0
+    even y d = let k : y * 2 ^ suc d ≡ y * 2 ^ d * 2 = ap (λ (x : ℕ). y * x) (pow-suc 2 d) ∙ sym (mul-assoc y (2 ^ d) 2) in omega arith
+
+    go : Dec (e ≤ i) → ⊥
+    go (yes k) =
+        let d = i - e in
+        let w : o * 2 ^ d * 2 ^ e ≡ c * 2 ^ e =
+            mul-assoc o (2 ^ d) (2 ^ e) ∙ ap (λ (x : ℕ). o * x) (sym (pow-add 2 d e) ∙ ap (λ (x : ℕ). 2 ^ x) (sub-add-cancel k)) ∙ t in
+        let v : o * 2 ^ d ≤ c = le-of-mul-le-mul-right (le-of-eq w) (pow-pos e) in
+        let u : o * 1 ≤ o * 2 ^ d = mul-le-mul-left o (pow-pos d) in
+        omega (arith, mul-one o)
+    go (no k) =
+        let d = e - suc i in
+        let s : suc d + i ≡ e = omega arith in
+        let w : c * 2 ^ suc d * 2 ^ i ≡ o * 2 ^ i = mul-assoc c (2 ^ suc d) (2 ^ i) ∙ ap (λ (x : ℕ). c * x) (sym (pow-add 2 (suc d) i) ∙ ap (λ (x : ℕ). 2 ^ x) s) ∙ sym t in
+        let v : o ≡ c * 2 ^ suc d = le-antisymm (le-of-mul-le-mul-right (le-of-eq (sym w)) (pow-pos i)) (le-of-mul-le-mul-right (le-of-eq w) (pow-pos i)) in
+        let z : c * 2 ^ suc d % 2 ≡ 0 = even c d in
+        let y : o % 2 ≡ 0 = subst (λ (x : ℕ). x % 2 ≡ 0) (sym v) z in
+        omega arith
+
+untied : (a k n c e p : ℕ) → 2 ^ 52 ≤ 2 * a + 1 → n ≡ c * 2 ^ e → c < 2 ^ 53 → square ((2 * a + 1) * 2 ^ k) ≡ 2 ^ p * n → ⊥
+untied a k n c e p l h r t =
+    no-tie (square (2 * a + 1)) c (k + k) (e + p) (odd-square a) (lt-of-lt-of-le r (le-trans (lit≤ tt) (square-mono (2 ^ 52) (2 * a + 1) l)))
+    (ap (λ (x : ℕ). square (2 * a + 1) * x) (pow-add 2 k k)
+    ∙ sym (square-mul (2 * a + 1) (2 ^ k))
+    ∙ t
+    ∙ mul-comm (2 ^ p) n
+    ∙ ap (λ (x : ℕ). x * 2 ^ p) h
+    ∙ mul-assoc c (2 ^ e) (2 ^ p)
+    ∙ ap (λ (x : ℕ). c * x) (sym (pow-add 2 e p)))
+  where
+    odd-square : (a : ℕ) → square (2 * a + 1) % 2 ≡ 1
+    odd-square a = omega (arith, square-odd a)
+
+-- a double's number has at most 53 digits
+abbrev Short : ℕ → Type 0
+Short n = (c : ℕ) × (e : ℕ) × (n ≡ c * 2 ^ e) × (c < 2 ^ 53)
+
+bits-short : (b : ℕ) → Short (squaresOf b)
+bits-short b = go (ltb b (2 ^ 52)) (ltb→lt b (2 ^ 52)) (nltb→le b (2 ^ 52))
+  where
+    digits : (b : ℕ) → b % 2 ^ 52 + 2 ^ 52 < 2 ^ 53
+    digits b = omega arith
+
+    go : (t : Bool) → (T t → b < 2 ^ 52) → (T (not t) → 2 ^ 52 ≤ b) → Short (squaresOf b)
+    go true y o = (b, 1074, low-is b (y tt), lt-of-lt-of-le (y tt) (lit≤ tt))
+    go false y o =
+        let q = b % 2 ^ 52 + 2 ^ 52 in
+        let k = b / 2 ^ 52 - 1 in
+        (q, k + 1074, high-is b (o tt) ∙ mul-assoc q (2 ^ k) (2 ^ 1074) ∙ ap (λ (x : ℕ). q * x) (sym (pow-add 2 k 1074)), digits b)
+
+reached : (q a b : ℕ) → (a ≡ b → ⊥) → Reaches q a b → a < b
+reached q a b h (inl l) = l
+reached q a b h (inr t) = absurd (h (t .0))
+
+strict : (n q k : ℕ) → Short n → Enclosed n q k → Strict n q k
+strict n q k (c, e, h, r) i = record {
+  lead = i .lead;
+  room = i .room;
+  above = reached q _ _ (λ t. untied (q - 1) k n c e 2 (below q (i .lead)) h r (ap (λ (x : ℕ). square (x * 2 ^ k)) (sym (less q (i .lead))) ∙ t)) (i .above);
+  below = reached q _ _ (λ t. untied q k n c e 2 (over q (i .lead)) h r (sym t)) (i .below);
+  edge = λ z. reached q _ _ (λ t. untied (2 * q - 1) k n c e 4 (far q (i .lead)) h r (ap (λ (x : ℕ). square (x * 2 ^ k)) (sym (edge-less q (i .lead))) ∙ t)) (i .edge z);
+}
+  where
+    less : (q : ℕ) → 2 ^ 52 ≤ q → 2 * q - 1 ≡ 2 * (q - 1) + 1
+    less q l = omega arith
+
+    edge-less : (q : ℕ) → 2 ^ 52 ≤ q → 4 * q - 1 ≡ 2 * (2 * q - 1) + 1
+    edge-less q l = omega arith
+
+    below : (q : ℕ) → 2 ^ 52 ≤ q → 2 ^ 52 ≤ 2 * (q - 1) + 1
+    below q l = omega arith
+
+    over : (q : ℕ) → 2 ^ 52 ≤ q → 2 ^ 52 ≤ 2 * q + 1
+    over q l = omega arith
+
+    far : (q : ℕ) → 2 ^ 52 ≤ q → 2 ^ 52 ≤ 2 * (2 * q - 1) + 1
+    far q l = omega arith
+
+loose : (n q k : ℕ) → Strict n q k → Enclosed n q k
+loose n q k i = record { lead = i .lead; room = i .room; above = inl (i .above); below = inl (i .below); edge = λ z. inl (i .edge z) }
+
+squares-short : (x : Float) → T (fits binary64 x) → T (positive x) → Short (inSquares x)
+squares-short x f p =
+    let b = toBits binary64 x in
+    let e : ofBits binary64 b ≡ x = ofBits-toBits binary64 x f in
+    let r = positive-bits b (toBits-lt binary64 x f) (subst (λ (v : Float). T (positive v)) (sym e) p) in
+    subst Short (sym (bits-squares b (r .1)) ∙ ap inSquares e) (bits-short b)
+
+-- ---- THE CLAIMS: of every double, `sqrt` is the root, and there is no other
+positive-root : (x : Float) (f : T (fits binary64 x)) (p : T (positive x))
+    → T (fits binary64 (sqrt x)) × T (positive (sqrt x)) × ((q : ℕ) × (k : ℕ) × (inUnits (sqrt x) ≡ q * 2 ^ k) × Enclosed (inSquares x) q k)
+positive-root x f p =
+    let r = root-enclosed x f p in
+    let n = root-nearest x f p in
+    (n .held, n .plus, (r .q, r .k, ap inUnits (r .is) ∙ odd-units false (r .q) (r .k), loose (inSquares x) (r .q) (r .k) (r .encloses)))
+
+above-zero : (m : ℕ) (e : ℤ) → T (positive (fin false (suc m) e))
+above-zero m e = lt→ltb 0 (suc m) (zero-lt-suc m)
+
+pub root-is : (x : Float) → T (fits binary64 x) → IsRoot x (sqrt x)
+unfolding IsRoot root
+root-is nan f = refl
+root-is (inf true) f = refl
+root-is (inf false) f = refl
+root-is (fin s zero e) f = refl
+root-is (fin true (suc m) e) f = refl
+root-is (fin false (suc m) e) f = positive-root (fin false (suc m) e) f (above-zero m e)
+
+pub root-unique : (x r : Float) → T (fits binary64 x) → IsRoot x r → r ≡ sqrt x
+unfolding IsRoot root
+root-unique nan r f h = h
+root-unique (inf true) r f h = h
+root-unique (inf false) r f h = h
+root-unique (fin s zero e) r f h = h
+root-unique (fin true (suc m) e) r f h = h
+root-unique (fin false (suc m) e) r f h =
+    let x : Float = fin false (suc m) e in
+    let p = above-zero m e in
+    let q = h .2 .0 in
+    let k = h .2 .1 in
+    enclosed-only x f p r q k (h .0) (h .1) (h .2 .2) (strict (inSquares x) q k (squares-short x f p) (h .2 .3))
