@@ -1,4 +1,19 @@
-// methods.rs: the sixteen schemes.
+// methods.rs: the sixteen schemes. Every pass is replayed over the answers so far.
+ghost use mathlib.Core.Path.{_≡_};
+ghost use mathlib.Core.Bool.{true, cond, _&&_};
+ghost use Prim.Native.Nat.{_+_, _-_, _*_, _≤_, _<_};
+ghost use lib.ListN.{length};
+ghost use Rattle.float.specs.Arith.{_⊗_, finite};
+ghost use Rattle.loops.specs.Loop.{mat};
+ghost use Rattle.evaluation.specs.Evaluation.{allFinite};
+ghost use Rattle.matrix.specs.Matrix.{at, admitted, exponential};
+ghost use Rattle.matrix.specs.Vector.{vec, matVec};
+ghost use Rattle.methods.specs.Numbers.{num, minus};
+ghost use Rattle.methods.specs.Vectors.{Sized, add, subtract, scale, axpy};
+ghost use Rattle.methods.specs.Phi.{over, augmentedEntry, augmented, phiAction, phiTerm, expAction};
+ghost use Rattle.methods.specs.Pass.{answer, asks, ends, fails, replay, stand};
+ghost use Rattle.methods.specs.Parts.{more, phiInto};
+ghost use Rattle.methods.specs.Schemes.{etdrk2, etdrk3};
 
 // A vector that exponentials were worked out for: `ok` says that every row sum was admitted; +0.0 where one was not.
 pub struct Action {
@@ -40,3 +55,436 @@ pub struct StepResult {
     pub error: [f64; 16],
     pub nonlinear: [f64; 16],
 }
+
+// Stands in for the layer below.
+pub fn mat_vec(m: &[f64], v: [f64; 16], n: usize) -> [f64; 16]
+    requires { ⌜ (n ≤ 16) × (length (now m) ≡ n * n) ⌝ }
+    ensures { λ r. ⌜ r ≡ matVec n (now (m .entry)) v ⌝ }
+{
+    [0.0; 16]
+}
+
+// Stands in for the layer below.
+pub fn matrix_exp(m: &[f64], out: &mut [f64], n: usize) -> bool
+    requires { ⌜ 1 ≤ n ⌝ }
+    requires { ⌜ n ≤ 20 ⌝ }
+    requires { ⌜ length (now m) ≡ n * n ⌝ }
+    requires { ⌜ length (now out) ≡ n * n ⌝ }
+    ensures { λ r. ⌜ (r ≡ admitted (now (m .entry)) n) × (now (out .exit) ≡ cond (admitted (now (m .entry)) n) (exponential (now (m .entry)) n .entries) (now (out .entry))) ⌝ }
+{
+    false
+}
+
+// ---- vectors
+
+pub fn add(left: [f64; 16], right: [f64; 16], n: usize) -> [f64; 16]
+    requires { ⌜ n ≤ 16 ⌝ }
+    ensures { λ r. ⌜ r ≡ add n left right ⌝ }
+{
+    let mut out = [0.0; 16];
+    for i in 0..n {
+        out[i] = left[i] + right[i];
+    }
+    out
+}
+
+pub fn subtract(left: [f64; 16], right: [f64; 16], n: usize) -> [f64; 16]
+    requires { ⌜ n ≤ 16 ⌝ }
+    ensures { λ r. ⌜ r ≡ subtract n left right ⌝ }
+{
+    let mut out = [0.0; 16];
+    for i in 0..n {
+        out[i] = left[i] - right[i];
+    }
+    out
+}
+
+pub fn scale(vector: [f64; 16], factor: f64, n: usize) -> [f64; 16]
+    requires { ⌜ n ≤ 16 ⌝ }
+    ensures { λ r. ⌜ r ≡ scale n vector factor ⌝ }
+{
+    let mut out = [0.0; 16];
+    for i in 0..n {
+        out[i] = factor * vector[i];
+    }
+    out
+}
+
+// What the Rust's axpy leaves in its output.
+pub fn axpy(output: [f64; 16], factor: f64, input: [f64; 16], n: usize) -> [f64; 16]
+    requires { ⌜ n ≤ 16 ⌝ }
+    ensures { λ r. ⌜ r ≡ axpy n output factor input ⌝ }
+{
+    let mut out = [0.0; 16];
+    for i in 0..n {
+        out[i] = output[i] + factor * input[i];
+    }
+    out
+}
+
+// ---- the actions of exponentials
+
+// The entry in row i and column j of the augmented matrix.
+fn augmented_entry(a: &[f64], scale_a: f64, input: [f64; 16], n: usize, i: usize, j: usize) -> f64
+    requires { ⌜ Sized n (now a) ⌝ }
+    requires { ⌜ i < 20 ⌝ }
+    ensures { λ r. ⌜ r ≡ augmentedEntry n (now (a .entry)) «scale_a» input i j ⌝ }
+{
+    if i < n {
+        if j < n {
+            scale_a * a[i * n + j]
+        } else if j == n {
+            input[i]
+        } else {
+            0.0
+        }
+    } else if j == i + 1 {
+        1.0
+    } else {
+        0.0
+    }
+}
+
+// scale_a times a, with the input column, and ones above the diagonal behind it.
+fn augment(a: &[f64], scale_a: f64, input: [f64; 16], n: usize, out: &mut [f64], size: usize)
+    requires { ⌜ Sized n (now a) ⌝ }
+    requires { ⌜ (0 < size) × (size ≤ 20) ⌝ }
+    requires { ⌜ length (now out) ≡ size * size ⌝ }
+    ensures { λ _. ⌜ now (out .exit) ≡ mat size (augmentedEntry n (now (a .entry)) «scale_a» input) ⌝ }
+{
+    for p in 0..out.len() {
+        out[p] = augmented_entry(a, scale_a, input, n, p / size, p % size);
+    }
+}
+
+// The first n entries of the last column.
+fn last_column(e: &[f64], size: usize, n: usize) -> [f64; 16]
+    requires { ⌜ (n ≤ 16) × (n ≤ size) × (0 < size) × (size ≤ 20) ⌝ }
+    requires { ⌜ length (now e) ≡ size * size ⌝ }
+    ensures { λ r. ⌜ r ≡ vec n (λ i. at (now (e .entry)) size i (size - 1)) ⌝ }
+{
+    let mut out = [0.0; 16];
+    for i in 0..n {
+        out[i] = e[i * size + (size - 1)];
+    }
+    out
+}
+
+// The phi action of order size - n, in two matrices that are lent.
+fn phi_into(
+    a: &[f64],
+    scale_a: f64,
+    input: [f64; 16],
+    n: usize,
+    m: &mut [f64],
+    e: &mut [f64],
+    size: usize,
+) -> Action
+    requires { ⌜ Sized n (now a) ⌝ }
+    requires { ⌜ (n < size) × (size ≤ 20) ⌝ }
+    requires { ⌜ length (now m) ≡ size * size ⌝ }
+    requires { ⌜ length (now e) ≡ size * size ⌝ }
+    ensures { λ r. ⌜ r ≡ phiInto n (now (a .entry)) «scale_a» input size ⌝ }
+{
+    augment(a, scale_a, input, n, m, size);
+    if matrix_exp(m, e, size) {
+        Action {
+            ok: true,
+            v: last_column(e, size, n),
+        }
+    } else {
+        Action {
+            ok: false,
+            v: [0.0; 16],
+        }
+    }
+}
+
+// The first n entries of the last column of the augmented matrix's exponential.
+pub fn phi_action(a: &[f64], scale_a: f64, order: usize, input: [f64; 16], n: usize) -> Action
+    requires { ⌜ Sized n (now a) ⌝ }
+    requires { ⌜ (1 ≤ order) × (order ≤ 4) ⌝ }
+    ensures { λ r. ⌜ r ≡ phiAction n (now (a .entry)) «scale_a» order input ⌝ }
+{
+    let size = n + order;
+    let count = size * size;
+    let mut m = [0.0; 400];
+    let mut e = [0.0; 400];
+    phi_into(a, scale_a, input, n, &mut m[..count], &mut e[..count], size)
+}
+
+pub fn phi_term(
+    a: &[f64],
+    scale_a: f64,
+    order: usize,
+    coefficient: f64,
+    input: [f64; 16],
+    n: usize,
+) -> Action
+    requires { ⌜ Sized n (now a) ⌝ }
+    requires { ⌜ (1 ≤ order) × (order ≤ 4) ⌝ }
+    ensures { λ r. ⌜ r ≡ phiTerm n (now (a .entry)) «scale_a» order coefficient input ⌝ }
+{
+    let p = phi_action(a, scale_a, order, input, n);
+    let v = p.v;
+    Action {
+        ok: p.ok,
+        v: scale(v, coefficient, n),
+    }
+}
+
+// scale_a times every entry.
+fn scale_matrix(a: &[f64], scale_a: f64, out: &mut [f64], n: usize)
+    requires { ⌜ (length (now a) ≡ n * n) × (length (now out) ≡ n * n) ⌝ }
+    ensures { λ _. ⌜ now (out .exit) ≡ mat n (λ i j. «scale_a» ⊗ at (now (a .entry)) n i j) ⌝ }
+{
+    for p in 0..out.len() {
+        out[p] = scale_a * a[p];
+    }
+}
+
+// The action of the exponential, in two matrices that are lent.
+fn exp_into(
+    a: &[f64],
+    scale_a: f64,
+    input: [f64; 16],
+    n: usize,
+    m: &mut [f64],
+    e: &mut [f64],
+) -> Action
+    requires { ⌜ Sized n (now a) ⌝ }
+    requires { ⌜ length (now m) ≡ n * n ⌝ }
+    requires { ⌜ length (now e) ≡ n * n ⌝ }
+    ensures { λ r. ⌜ r ≡ expAction n (now (a .entry)) «scale_a» input ⌝ }
+{
+    scale_matrix(a, scale_a, m, n);
+    if matrix_exp(m, e, n) {
+        Action {
+            ok: true,
+            v: mat_vec(e, input, n),
+        }
+    } else {
+        Action {
+            ok: false,
+            v: [0.0; 16],
+        }
+    }
+}
+
+// The exponential of scale_a times a, times the input.
+pub fn exp_action(a: &[f64], scale_a: f64, input: [f64; 16], n: usize) -> Action
+    requires { ⌜ Sized n (now a) ⌝ }
+    ensures { λ r. ⌜ r ≡ expAction n (now (a .entry)) «scale_a» input ⌝ }
+{
+    let count = n * n;
+    let mut m = [0.0; 256];
+    let mut e = [0.0; 256];
+    exp_into(a, scale_a, input, n, &mut m[..count], &mut e[..count])
+}
+
+// ---- the parts of a pass
+
+// u plus a checked vector.
+fn added(u: [f64; 16], k: Action, n: usize) -> Action
+    requires { ⌜ n ≤ 16 ⌝ }
+    ensures { λ r. ⌜ r ≡ over (add n u) k ⌝ }
+{
+    let v = k.v;
+    Action {
+        ok: k.ok,
+        v: add(u, v, n),
+    }
+}
+
+// sum plus factor times k, under both checks.
+fn more(sum: Action, factor: f64, k: Action, n: usize) -> Action
+    requires { ⌜ n ≤ 16 ⌝ }
+    ensures { λ r. ⌜ r ≡ more n sum factor k ⌝ }
+{
+    let v = sum.v;
+    let w = k.v;
+    Action {
+        ok: sum.ok & k.ok,
+        v: axpy(v, factor, w, n),
+    }
+}
+
+// sum plus factor times a phi term.
+fn add_term(
+    sum: Action,
+    factor: f64,
+    a: &[f64],
+    scale_a: f64,
+    order: usize,
+    coefficient: f64,
+    input: [f64; 16],
+    n: usize,
+) -> Action
+    requires { ⌜ Sized n (now a) ⌝ }
+    requires { ⌜ (1 ≤ order) × (order ≤ 4) ⌝ }
+    ensures { λ r. ⌜ r ≡ more n sum factor (phiTerm n (now (a .entry)) «scale_a» order coefficient input) ⌝ }
+{
+    more(sum, factor, phi_term(a, scale_a, order, coefficient, input, n), n)
+}
+
+// Answer j, its first n places.
+fn evaluated(answers: &[f64], j: usize, n: usize) -> [f64; 16]
+    requires { ⌜ length (now answers) ≡ 320 ⌝ }
+    requires { ⌜ (j < 20) × (n ≤ 16) ⌝ }
+    ensures { λ r. ⌜ r ≡ answer n (now (answers .entry)) j ⌝ }
+{
+    let mut out = [0.0; 16];
+    for i in 0..n {
+        out[i] = answers[16 * j + i];
+    }
+    out
+}
+
+// What shifted_stage makes of answer j.
+fn shifted_stage(
+    a: &[f64],
+    stage: [f64; 16],
+    au: [f64; 16],
+    answers: &[f64],
+    j: usize,
+    n: usize,
+) -> [f64; 16]
+    requires { ⌜ Sized n (now a) ⌝ }
+    requires { ⌜ length (now answers) ≡ 320 ⌝ }
+    requires { ⌜ j < 20 ⌝ }
+    ensures { λ r. ⌜ r ≡ axpy n (axpy n (answer n (now (answers .entry)) j) (minus 1) (matVec n (now (a .entry)) stage)) (num 1) au ⌝ }
+{
+    let value = evaluated(answers, j, n);
+    let product = mat_vec(a, stage, n);
+    axpy(axpy(value, -1.0, product, n), 1.0, au, n)
+}
+
+// What remainder makes of answer j.
+fn remainder(
+    a: &[f64],
+    stage: [f64; 16],
+    base: [f64; 16],
+    f0: [f64; 16],
+    answers: &[f64],
+    j: usize,
+    n: usize,
+) -> [f64; 16]
+    requires { ⌜ Sized n (now a) ⌝ }
+    requires { ⌜ length (now answers) ≡ 320 ⌝ }
+    requires { ⌜ j < 20 ⌝ }
+    ensures { λ r. ⌜ r ≡ axpy n (axpy n (answer n (now (answers .entry)) j) (minus 1) f0) (minus 1) (matVec n (now (a .entry)) (subtract n stage base)) ⌝ }
+{
+    let value = evaluated(answers, j, n);
+    let product = mat_vec(a, subtract(stage, base, n), n);
+    axpy(axpy(value, -1.0, f0, n), -1.0, product, n)
+}
+
+// Whether a question passes its tests.
+fn may_ask(ok: bool, x: [f64; 16], time: f64) -> bool
+    ensures { λ r. ⌜ r ≡ (ok && (allFinite x && finite time)) ⌝ }
+{
+    let good = evaluation::all_finite(&x) & float::finite(time);
+    ok & good
+}
+
+fn asked(ok: bool, x: [f64; 16], time: f64) -> Out
+    ensures { λ r. ⌜ stand r ≡ cond ok (asks x time) fails ⌝ }
+{
+    Out {
+        ok,
+        kind: Kind::Question(time),
+        x,
+        e: [0.0; 16],
+    }
+}
+
+fn ended(ok: bool, x: [f64; 16], e: [f64; 16]) -> Out
+    ensures { λ r. ⌜ stand r ≡ cond (ok && (allFinite x && allFinite e)) (ends x e) fails ⌝ }
+{
+    let good = evaluation::all_finite(&x) & evaluation::all_finite(&e);
+    Out {
+        ok: ok & good,
+        kind: Kind::Done,
+        x,
+        e,
+    }
+}
+
+// ---- the schemes
+
+fn etdrk2(
+    p: Point,
+    a: &[f64],
+    g0: [f64; 16],
+    answers: &[f64],
+    first: usize,
+    count: usize,
+) -> Out
+    requires { ⌜ Sized (p .n) (now a) ⌝ }
+    requires { ⌜ length (now answers) ≡ 320 ⌝ }
+    requires { ⌜ first ≤ 16 ⌝ }
+    ensures { λ r. ⌜ stand r ≡ replay (p .n) (etdrk2 (p .n) (now (a .entry)) (p .state) (p .time) (p .step) (p .f0) g0) count first (now (answers .entry)) ⌝ }
+{
+    let n = p.n;
+    let t = p.time;
+    let h = p.step;
+    let u = p.state;
+    let f0 = p.f0;
+    let s2 = added(u, phi_term(a, h, 1, h, f0, n), n);
+    let u2 = s2.v;
+    let ok = may_ask(s2.ok, u2, t + h);
+    if count == 0 {
+        return asked(ok, u2, t + h);
+    }
+    let f2 = evaluated(answers, first, n);
+    let g2 = subtract(f2, mat_vec(a, u2, n), n);
+    let difference = subtract(g2, g0, n);
+    let s = added(u2, phi_term(a, h, 2, h, difference, n), n);
+    let x = s.v;
+    ended(ok & s.ok, x, [0.0; 16])
+}
+
+fn etdrk3(
+    p: Point,
+    a: &[f64],
+    au: [f64; 16],
+    answers: &[f64],
+    first: usize,
+    count: usize,
+) -> Out
+    requires { ⌜ Sized (p .n) (now a) ⌝ }
+    requires { ⌜ length (now answers) ≡ 320 ⌝ }
+    requires { ⌜ first ≤ 16 ⌝ }
+    ensures { λ r. ⌜ stand r ≡ replay (p .n) (etdrk3 (p .n) (now (a .entry)) (p .state) (p .time) (p .step) (p .f0) au) count first (now (answers .entry)) ⌝ }
+{
+    let n = p.n;
+    let t = p.time;
+    let h = p.step;
+    let u = p.state;
+    let f1 = p.f0;
+    let s2 = added(u, phi_term(a, h / 2.0, 1, h / 2.0, f1, n), n);
+    let u2 = s2.v;
+    let ok = may_ask(s2.ok, u2, t + h / 2.0);
+    if count == 0 {
+        return asked(ok, u2, t + h / 2.0);
+    }
+    let f2 = shifted_stage(a, u2, au, answers, first, n);
+    let stage = axpy(scale(f2, 2.0, n), -1.0, f1, n);
+    let s3 = added(u, phi_term(a, h, 1, h, stage, n), n);
+    let u3 = s3.v;
+    let ok = may_ask(ok & s3.ok, u3, t + h);
+    if count == 1 {
+        return asked(ok, u3, t + h);
+    }
+    let f3 = shifted_stage(a, u3, au, answers, first + 1, n);
+    let k = phi_term(a, h, 1, h, f1, n);
+    let k = add_term(k, -3.0, a, h, 2, h, f1, n);
+    let k = add_term(k, 4.0, a, h, 3, h, f1, n);
+    let k = add_term(k, 4.0, a, h, 2, h, f2, n);
+    let k = add_term(k, -8.0, a, h, 3, h, f2, n);
+    let k = add_term(k, -1.0, a, h, 2, h, f3, n);
+    let k = add_term(k, 4.0, a, h, 3, h, f3, n);
+    let increment = k.v;
+    ended(ok & k.ok, add(u, increment, n), [0.0; 16])
+}
+
