@@ -82,6 +82,11 @@ module _ {S : Stand} {b : Bool} {n c j : ℕ} {r : List Float} where
   unfolding _>>=_ over more
   next-part q p factor next e h = record { holds = rw (replay-also, ← cond-and, and-assoc) (rw e at (h .holds)) }
 
+  -- a vector worked out at once, on the way
+  pub part-now : {q : Action} (x y : List Float) (next : List Float → Pass) → x ≡ y → Sums S b q n (next x) c j r → Sums S b q n (now y >>= next) c j r
+  unfolding _>>=_
+  part-now x y next e h = record { holds = rw (← e) (h .holds) }
+
   pub summed : (q : Action) (p : Pass) → Held S (b && q .ok) n p c j r → Sums S b q n p c j r
   summed q p h = record { holds = h .holds }
 
