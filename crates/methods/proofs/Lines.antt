@@ -58,6 +58,12 @@ module _ {S : Stand} {b : Bool} {n c j : ℕ} {r : List Float} where
       → k ≡ p → q ≡ over f k → Held S (b && q .ok) n (next (q .v)) c j r → Held S b n (try (over f p) >>= next) c j r
   over-line q k p f next g e h = checked-line q (over f p) next (rw (← g) e) h
 
+  -- the same, where the code has only the vector
+  pub over-plain : (k p : Action) (f : List Float → List Float) (x : List Float) (next : List Float → Pass)
+      → k ≡ p → x ≡ f (k .v) → Held S (b && k .ok) n (next x) c j r → Held S b n (try (over f p) >>= next) c j r
+  unfolding over
+  over-plain k p f x next g e h = checked-line (over f k) (over f p) next (rw g) (record { holds = rw e at (h .holds) })
+
   -- a question that is still open
   pub open-line : (ok : Bool) (x : List Float) (t : Float) (made : List Float → List Float) (next : List Float → Pass)
       → ok ≡ (b && (allFinite x && finite t)) → c ≡ 0 → S ≡ cond ok (asks x t) fails → Held S b n (question x t made >>= next) c j r
@@ -82,6 +88,10 @@ module _ {S : Stand} {b : Bool} {n c j : ℕ} {r : List Float} where
   unfolding _>>=_ over more
   next-part q p factor next e h = record { holds = rw (replay-also, ← cond-and, and-assoc) (rw e at (h .holds)) }
 
+  pub next-made : {s : Action} (q k p : Action) (factor : Float) (next : List Float → Pass)
+      → k ≡ p → q ≡ more n s factor k → Sums S b q n (next (q .v)) c j r → Sums S b s n (try (over (axpy n (s .v) factor) p) >>= next) c j r
+  next-made q k p factor next g e h = next-part q p factor next (rw (← g) e) h
+
   -- a vector worked out at once, on the way
   pub part-now : {q : Action} (x y : List Float) (next : List Float → Pass) → x ≡ y → Sums S b q n (next x) c j r → Sums S b q n (now y >>= next) c j r
   unfolding _>>=_
@@ -101,3 +111,11 @@ answered-line {n = n} {c = suc c} {j = j} {r = r} ok x t made f next k e z g y h
     let i : j + 1 ≡ suc j = omega arith in
     let f' : f ≡ made (answer n r j) = rw y at g in
     record { holds = rw (← cond-and, ← e, ← f') (rw (d, i) at (h .holds)) }
+
+-- the rest is another function's
+pub handed-on : {S : Stand} {b : Bool} {n c j : ℕ} {p : Pass} {r : List Float} (d k : ℕ) → S ≡ cond b (replay n p d k r) fails → d ≡ c → k ≡ j → Held S b n p c j r
+handed-on d k h e f = record { holds = rw (e, f) at h }
+
+-- a function that takes over with a flag
+pub go-on : {S : Stand} (b : Bool) (n : ℕ) (p : Pass) (c j : ℕ) (r : List Float) → Held S b n p c j r → S ≡ cond b (replay n p c j r) fails
+go-on b n p c j r h = h .holds

@@ -5,7 +5,7 @@ ghost use Prim.Native.Nat.{ℕ, _+_, _-_, _*_, _≤_, _<_};
 ghost use mathlib.Core.List.{List, [], _∷_};
 ghost use lib.Ieee.{Float};
 ghost use lib.ListN.{length};
-ghost use Rattle.float.specs.Arith.{_⊗_, finite};
+ghost use Rattle.float.specs.Arith.{_⊗_, _⊘_, finite};
 ghost use Rattle.loops.specs.Loop.{mat};
 ghost use Rattle.evaluation.specs.Evaluation.{allFinite};
 ghost use Rattle.matrix.specs.Matrix.{at, admitted, exponential};
@@ -14,8 +14,10 @@ ghost use Rattle.methods.specs.Numbers.{num, minus};
 ghost use Rattle.methods.specs.Vectors.{Sized, add, subtract, scale, axpy, combine};
 ghost use Rattle.methods.specs.Phi.{over, augmentedEntry, augmented, phiAction, phiTerm, expAction};
 ghost use Rattle.methods.specs.Pass.{answer, asks, ends, fails, replay, stand};
-ghost use Rattle.methods.specs.Parts.{more, phiInto};
-ghost use Rattle.methods.specs.Schemes.{lawsonEuler, norsettEuler, etdrk2, etdrk3, etdrk4, exp4, epirk4s3, epirk4s3A, epirk4s3B, epirk5s3, exprb53s3, epirk5p1, epirk5p2, etd2, exprb32, exprb43};
+ghost use Rattle.methods.specs.Parts.{more, phiInto, a52Of, a54Of};
+ghost use Rattle.methods.specs.Schemes.{lawsonEuler, norsettEuler, etdrk2, etdrk3, etdrk4, a52, hochOst4, exp4, epirk4s3, epirk4s3A, epirk4s3B, epirk5s3, exprb53s3, epirk5p1, epirk5p2, etd2, exprb32, exprb43};
+ghost use Rattle.methods.specs.Stages.{sum5, hochOst4·4, hochOst4·5, hochOst4·end};
+ghost use Rattle.methods.specs.Step.{pass, questions, finish, performStep, progress};
 
 // A vector that exponentials were worked out for: `ok` says that every row sum was admitted; +0.0 where one was not.
 pub struct Action {
@@ -331,6 +333,18 @@ fn after(x: [f64; 16], factor: f64, k: Action, n: usize) -> Action
     Action {
         ok: k.ok,
         v: axpy(x, factor, v, n),
+    }
+}
+
+// factor times a checked vector.
+fn scaled(k: Action, factor: f64, n: usize) -> Action
+    requires { ⌜ n ≤ 16 ⌝ }
+    ensures { λ r. ⌜ r ≡ over (λ x. scale n x factor) k ⌝ }
+{
+    let v = k.v;
+    Action {
+        ok: k.ok,
+        v: scale(v, factor, n),
     }
 }
 
@@ -1062,3 +1076,335 @@ fn exprb43(
     ended(ok & k33.ok & k34.ok, add(u, increment, n), error)
 }
 
+// a52 of four phi terms of one vector.
+fn a52(p2h: Action, p3: Action, p2: Action, p3h: Action, n: usize) -> Action
+    requires { ⌜ n ≤ 16 ⌝ }
+    ensures { λ r. ⌜ r ≡ a52Of n p2h p3 p2 p3h ⌝ }
+{
+    let x1 = p2h.v;
+    let x2 = p3.v;
+    let x3 = p2.v;
+    let x4 = p3h.v;
+    Action {
+        ok: p2h.ok & p3.ok & p2.ok & p3h.ok,
+        v: axpy(combine3(0.5, x1, -1.0, x2, 0.25, x3, n), -0.5, x4, n),
+    }
+}
+
+// a54 of a phi term and a52 of the same vector.
+fn a54(p2h: Action, inner: Action, n: usize) -> Action
+    requires { ⌜ n ≤ 16 ⌝ }
+    ensures { λ r. ⌜ r ≡ a54Of n p2h inner ⌝ }
+{
+    let x1 = p2h.v;
+    let x2 = inner.v;
+    Action {
+        ok: p2h.ok & inner.ok,
+        v: combine2(0.25, x1, -1.0, x2, n),
+    }
+}
+
+// a52 of a vector.
+fn a52_of(a: &[f64], h: f64, v: [f64; 16], n: usize) -> Action
+    requires { ⌜ Sized n (now a) ⌝ }
+    ensures { λ r. ⌜ r ≡ a52 n (now (a .entry)) h v ⌝ }
+{
+    let p2h = phi_term(a, h / 2.0, 2, 1.0, v, n);
+    let p3 = phi_term(a, h, 3, 1.0, v, n);
+    let p2 = phi_term(a, h, 2, 1.0, v, n);
+    let p3h = phi_term(a, h / 2.0, 3, 1.0, v, n);
+    a52(p2h, p3, p2, p3h, n)
+}
+
+// HochOst4 from the last answer on. Every phi term is worked out once and handed on.
+fn hoch_ost4_end(
+    p: Point,
+    a: &[f64],
+    ok: bool,
+    p1: Action,
+    p2: Action,
+    p3: Action,
+    f4: [f64; 16],
+    g2: Action,
+    g3: Action,
+    f5: [f64; 16],
+) -> Out
+    requires { ⌜ Sized (p .n) (now a) ⌝ }
+    requires { ⌜ (p1 ≡ phiTerm (p .n) (now a) (p .step) 1 (num 1) (p .f0)) × (p2 ≡ phiTerm (p .n) (now a) (p .step) 2 (num 1) (p .f0)) × (p3 ≡ phiTerm (p .n) (now a) (p .step) 3 (num 1) (p .f0)) ⌝ }
+    requires { ⌜ (g2 ≡ phiTerm (p .n) (now a) (p .step) 2 (num 1) f4) × (g3 ≡ phiTerm (p .n) (now a) (p .step) 3 (num 1) f4) ⌝ }
+    ensures { λ r. ⌜ ((count first : ℕ) (answers : List Float) → stand r ≡ cond ok (replay (p .n) (hochOst4·end (p .n) (now (a .entry)) (p .state) (p .step) (p .f0) f4 f5) count first answers) fails) ⌝ }
+{
+    let n = p.n;
+    let h = p.step;
+    let u = p.state;
+    let k = more(p1, -3.0, p2, n);
+    let k = more(k, 4.0, p3, n);
+    let k = more(k, -1.0, g2, n);
+    let k = more(k, 4.0, g3, n);
+    let k = add_term(k, 4.0, a, h, 2, 1.0, f5, n);
+    let k = add_term(k, -8.0, a, h, 3, 1.0, f5, n);
+    let increment = k.v;
+    ended(ok & k.ok, add(u, scale(increment, h, n), n), [0.0; 16])
+}
+
+// HochOst4's fifth combination, under all its checks.
+fn hoch_ost4_sum(
+    p: Point,
+    a: &[f64],
+    p1h: Action,
+    p2h: Action,
+    p2: Action,
+    p3: Action,
+    sum23: [f64; 16],
+    f4: [f64; 16],
+    g2: Action,
+    g3: Action,
+) -> Action
+    requires { ⌜ Sized (p .n) (now a) ⌝ }
+    requires { ⌜ (p2h ≡ phiTerm (p .n) (now a) (p .step ⊘ num 2) 2 (num 1) (p .f0)) × (p2 ≡ phiTerm (p .n) (now a) (p .step) 2 (num 1) (p .f0)) × (p3 ≡ phiTerm (p .n) (now a) (p .step) 3 (num 1) (p .f0)) ⌝ }
+    requires { ⌜ (g2 ≡ phiTerm (p .n) (now a) (p .step) 2 (num 1) f4) × (g3 ≡ phiTerm (p .n) (now a) (p .step) 3 (num 1) f4) ⌝ }
+    ensures { λ r. ⌜ r ≡ sum5 (p .n) (now (a .entry)) (p .step) (p .f0) p1h sum23 f4 ⌝ }
+{
+    let n = p.n;
+    let h = p.step;
+    let f1 = p.f0;
+    let half = h / 2.0;
+    let p3h = phi_term(a, half, 3, 1.0, f1, n);
+    let k52 = a52(p2h, p3, p2, p3h, n);
+    let k54 = a54(p2h, k52, n);
+    let g2h = phi_term(a, half, 2, 1.0, f4, n);
+    let g3h = phi_term(a, half, 3, 1.0, f4, n);
+    let g54 = a54(g2h, a52(g2h, g3, g2, g3h, n), n);
+    let k = scaled(p1h, 0.5, n);
+    let k = more(k, -2.0, k52, n);
+    let k = more(k, -1.0, k54, n);
+    let k = more(k, 1.0, a52_of(a, h, sum23, n), n);
+    more(k, 1.0, g54, n)
+}
+
+// HochOst4 from the third answer on.
+fn hoch_ost4_5(
+    p: Point,
+    a: &[f64],
+    au: [f64; 16],
+    answers: &[f64],
+    first: usize,
+    count: usize,
+    ok: bool,
+    p1h: Action,
+    p2h: Action,
+    p1: Action,
+    p2: Action,
+    sum23: [f64; 16],
+    f4: [f64; 16],
+) -> Out
+    requires { ⌜ Sized (p .n) (now a) ⌝ }
+    requires { ⌜ length (now answers) ≡ 320 ⌝ }
+    requires { ⌜ first ≤ 16 ⌝ }
+    requires { ⌜ (p1h ≡ phiTerm (p .n) (now a) (p .step ⊘ num 2) 1 (num 1) (p .f0)) × (p2h ≡ phiTerm (p .n) (now a) (p .step ⊘ num 2) 2 (num 1) (p .f0)) × (p1 ≡ phiTerm (p .n) (now a) (p .step) 1 (num 1) (p .f0)) × (p2 ≡ phiTerm (p .n) (now a) (p .step) 2 (num 1) (p .f0)) ⌝ }
+    requires { ⌜ 3 ≤ count ⌝ }
+    ensures { λ r. ⌜ ((f2 f3 : List Float) → sum23 ≡ add (p .n) f2 f3 → stand r ≡ cond ok (replay (p .n) (hochOst4·5 (p .n) (now (a .entry)) (p .state) (p .time) (p .step) (p .f0) au f2 f3 f4) (count - 3) (first + 3) (now (answers .entry))) fails) ⌝ }
+{
+    let n = p.n;
+    let t = p.time;
+    let h = p.step;
+    let u = p.state;
+    let f1 = p.f0;
+    let half = h / 2.0;
+    let p3 = phi_term(a, h, 3, 1.0, f1, n);
+    let g2 = phi_term(a, h, 2, 1.0, f4, n);
+    let g3 = phi_term(a, h, 3, 1.0, f4, n);
+    let s5 = hoch_ost4_sum(p, a, p1h, p2h, p2, p3, sum23, f4, g2, g3);
+    let i5 = s5.v;
+    let u5 = add(u, scale(i5, h, n), n);
+    let ok = may_ask(ok & s5.ok, u5, t + half);
+    if count == 3 {
+        return asked(ok, u5, t + half);
+    }
+    let f5 = shifted_stage(a, u5, au, answers, first + 3, n);
+    hoch_ost4_end(p, a, ok, p1, p2, p3, f4, g2, g3, f5)
+}
+
+// HochOst4 from the second answer on.
+fn hoch_ost4_4(
+    p: Point,
+    a: &[f64],
+    au: [f64; 16],
+    answers: &[f64],
+    first: usize,
+    count: usize,
+    ok: bool,
+    p1h: Action,
+    p2h: Action,
+    f2: [f64; 16],
+    f3: [f64; 16],
+) -> Out
+    requires { ⌜ Sized (p .n) (now a) ⌝ }
+    requires { ⌜ length (now answers) ≡ 320 ⌝ }
+    requires { ⌜ first ≤ 16 ⌝ }
+    requires { ⌜ (p1h ≡ phiTerm (p .n) (now a) (p .step ⊘ num 2) 1 (num 1) (p .f0)) × (p2h ≡ phiTerm (p .n) (now a) (p .step ⊘ num 2) 2 (num 1) (p .f0)) ⌝ }
+    requires { ⌜ 2 ≤ count ⌝ }
+    ensures { λ r. ⌜ stand r ≡ cond ok (replay (p .n) (hochOst4·4 (p .n) (now (a .entry)) (p .state) (p .time) (p .step) (p .f0) au f2 f3) (count - 2) (first + 2) (now (answers .entry))) fails ⌝ }
+{
+    let n = p.n;
+    let t = p.time;
+    let h = p.step;
+    let u = p.state;
+    let f1 = p.f0;
+    let p1 = phi_term(a, h, 1, 1.0, f1, n);
+    let p2 = phi_term(a, h, 2, 1.0, f1, n);
+    let k = more(p1, -2.0, p2, n);
+    let k = add_term(k, 1.0, a, h, 2, 1.0, f2, n);
+    let k = add_term(k, 1.0, a, h, 2, 1.0, f3, n);
+    let i4 = k.v;
+    let u4 = add(u, scale(i4, h, n), n);
+    let ok = may_ask(ok & k.ok, u4, t + h);
+    if count == 2 {
+        return asked(ok, u4, t + h);
+    }
+    let f4 = shifted_stage(a, u4, au, answers, first + 2, n);
+    let sum23 = add(f2, f3, n);
+    hoch_ost4_5(p, a, au, answers, first, count, ok, p1h, p2h, p1, p2, sum23, f4)
+}
+
+fn hoch_ost4(
+    p: Point,
+    a: &[f64],
+    au: [f64; 16],
+    answers: &[f64],
+    first: usize,
+    count: usize,
+) -> Out
+    requires { ⌜ Sized (p .n) (now a) ⌝ }
+    requires { ⌜ length (now answers) ≡ 320 ⌝ }
+    requires { ⌜ first ≤ 16 ⌝ }
+    ensures { λ r. ⌜ stand r ≡ replay (p .n) (hochOst4 (p .n) (now (a .entry)) (p .state) (p .time) (p .step) (p .f0) au) count first (now (answers .entry)) ⌝ }
+{
+    let n = p.n;
+    let t = p.time;
+    let h = p.step;
+    let u = p.state;
+    let f1 = p.f0;
+    let half = h / 2.0;
+    let p1h = phi_term(a, half, 1, 1.0, f1, n);
+    let v1h = p1h.v;
+    let u2 = add(u, scale(v1h, half, n), n);
+    let ok = may_ask(p1h.ok, u2, t + half);
+    if count == 0 {
+        return asked(ok, u2, t + half);
+    }
+    let f2 = shifted_stage(a, u2, au, answers, first, n);
+    let p2h = phi_term(a, half, 2, 1.0, f1, n);
+    let k = more(scaled(p1h, 0.5, n), -1.0, p2h, n);
+    let k = add_term(k, 1.0, a, half, 2, 1.0, f2, n);
+    let i3 = k.v;
+    let u3 = add(u, scale(i3, h, n), n);
+    let ok = may_ask(ok & k.ok, u3, t + half);
+    if count == 1 {
+        return asked(ok, u3, t + half);
+    }
+    let f3 = shifted_stage(a, u3, au, answers, first + 1, n);
+    hoch_ost4_4(p, a, au, answers, first, count, ok, p1h, p2h, f2, f3)
+}
+
+// ---- the choice by number
+
+fn chosen(
+    scheme: u8,
+    p: Point,
+    a: &[f64],
+    au: [f64; 16],
+    g: [f64; 16],
+    answers: &[f64],
+    first: usize,
+    count: usize,
+) -> Out
+    requires { ⌜ Sized (p .n) (now a) ⌝ }
+    requires { ⌜ length (now answers) ≡ 320 ⌝ }
+    requires { ⌜ first ≤ 16 ⌝ }
+    requires { ⌜ au ≡ matVec (p .n) (now a) (p .state) ⌝ }
+    ensures { λ r. ⌜ stand r ≡ replay (p .n) (pass scheme p (now (a .entry)) au g) count first (now (answers .entry)) ⌝ }
+{
+    let n = p.n;
+    let h = p.step;
+    let u = p.state;
+    let f0 = p.f0;
+    let previous = p.previous;
+    match scheme {
+        0 => lawson_euler(a, u, g, h, n),
+        1 => norsett_euler(a, u, f0, h, n),
+        2 => etdrk2(p, a, g, answers, first, count),
+        3 => etdrk3(p, a, au, answers, first, count),
+        4 => etdrk4(p, a, au, answers, first, count),
+        5 => hoch_ost4(p, a, au, answers, first, count),
+        6 => exp4(p, a, answers, first, count),
+        7 => epirk4s3_a(p, a, answers, first, count),
+        8 => epirk4s3_b(p, a, answers, first, count),
+        9 => epirk5s3(p, a, answers, first, count),
+        10 => exprb53s3(p, a, answers, first, count),
+        11 => epirk5p1(p, a, answers, first, count),
+        12 => epirk5p2(p, a, answers, first, count),
+        13 => etd2(a, u, h, g, p.held, previous, n),
+        14 => exprb32(p, a, au, answers, first, count),
+        15 => exprb43(p, a, au, answers, first, count),
+        _ => ended(false, [0.0; 16], [0.0; 16]),
+    }
+}
+
+// How many questions the pass of a scheme asks.
+pub fn questions(scheme: u8) -> usize
+    ensures { λ r. ⌜ (r ≡ questions scheme) × (r ≤ 4) ⌝ }
+{
+    let table: [usize; 16] = [0, 0, 1, 2, 3, 4, 2, 2, 2, 2, 2, 2, 2, 0, 1, 2];
+    if scheme < 16 {
+        return table[scheme as usize];
+    }
+    0
+}
+
+fn finished(o: Out, nonlinear: [f64; 16]) -> StepResult
+    ensures { λ r. ⌜ progress r ≡ finish nonlinear (stand o) ⌝ }
+{
+    let kind = o.kind;
+    let state = o.x;
+    let error = o.e;
+    StepResult {
+        ok: o.ok,
+        kind,
+        state,
+        error,
+        nonlinear,
+    }
+}
+
+// A step over the answers so far: it is refused by 6, asks, or has ended.
+pub fn perform_step(
+    scheme: u8,
+    p: Point,
+    a: &[f64],
+    answers: &[f64],
+    first: usize,
+    count: usize,
+) -> StepResult
+    requires { ⌜ Sized (p .n) (now a) ⌝ }
+    requires { ⌜ length (now answers) ≡ 320 ⌝ }
+    requires { ⌜ first ≤ 16 ⌝ }
+    ensures { λ r. ⌜ progress r ≡ performStep scheme p (now (a .entry)) count first (now (answers .entry)) ⌝ }
+{
+    let n = p.n;
+    let u = p.state;
+    let f0 = p.f0;
+    let au = mat_vec(a, u, n);
+    let nonlinear0 = subtract(f0, au, n);
+    let good = evaluation::all_finite(&au) & evaluation::all_finite(&nonlinear0);
+    if good {
+        return finished(chosen(scheme, p, a, au, nonlinear0, answers, first, count), nonlinear0);
+    }
+    StepResult {
+        ok: false,
+        kind: Kind::Done,
+        state: [0.0; 16],
+        error: [0.0; 16],
+        nonlinear: nonlinear0,
+    }
+}
