@@ -22,12 +22,13 @@ both true b h = (refl, h)
 both false b h = absurd (subst T (sym h) tt)
 
 small-at : (l : List ℕ) (k : ℕ) → small l ≡ true → getD l k 0 ≤ 4
+unfolding small
 small-at [] k h = omega arith
 small-at (x ∷ l) zero h = leb-true x 4 (both (leb x 4) (small l) h .0)
 small-at (x ∷ l) (suc k) h = small-at l k (both (leb x 4) (small l) h .1)
 
 at-most : (k : ℕ) → questions k ≤ 4
-unfolding questions
+unfolding questions small
 at-most k = small-at (0 ∷ 0 ∷ 1 ∷ 2 ∷ 3 ∷ 4 ∷ 2 ∷ 2 ∷ 2 ∷ 2 ∷ 2 ∷ 2 ∷ 2 ∷ 0 ∷ 1 ∷ 2 ∷ []) k refl
 
 over : (k : ℕ) → 16 ≤ k → 0 ≡ questions k
