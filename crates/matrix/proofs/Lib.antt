@@ -1,5 +1,6 @@
 pub mod Rows
 pub mod Products
+pub mod Sizes
 pub mod Powers
 pub mod Series
 pub mod Row

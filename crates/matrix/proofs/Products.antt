@@ -48,6 +48,18 @@ row-step l r n i k row from o p q h u v e d =
     let d' : q ≡ stores (λ j x. x ⊕ at l n i k ⊗ at r n k j) (i * n) n p = simp (u, v) at d in
     simp products-suc (d' ∙ ap (λ z. stores (λ j x. x ⊕ at l n i k ⊗ at r n k j) (i * n) n z) e ∙ stores-stores _ _ (i * n) n o h)
 
+products-two : (l r : List Float) (n i j k : ℕ) → products (k + 2) l r n i j ≡ products k l r n i j ⊕ at l n i k ⊗ at r n k j ⊕ at l n i (k + 1) ⊗ at r n (k + 1) j
+unfolding products iter
+products-two l r n i j k = let s : k + 2 ≡ suc (suc k) = omega arith in rw (s, add-one)
+
+pub row-two : (l r : List Float) (n i k row from next : ℕ) (o p q : List Float) → i * n + n ≤ length o → row ≡ i * n → from ≡ k * n → next ≡ (k + 1) * n
+    → p ≡ stores (λ j x. products k l r n i j) (i * n) n o
+    → q ≡ stores (λ j x. x ⊕ l ! (row + k) ⊗ r ! (from + j) ⊕ l ! (row + (k + 1)) ⊗ r ! (next + j)) row n p
+    → q ≡ stores (λ j x. products (k + 2) l r n i j) (i * n) n o
+row-two l r n i k row from next o p q h u v w e d =
+    let d' : q ≡ stores (λ j x. x ⊕ at l n i k ⊗ at r n k j ⊕ at l n i (k + 1) ⊗ at r n (k + 1) j) (i * n) n p = simp (u, v, w) at d in
+    simp products-two (d' ∙ ap (λ z. stores (λ j x. x ⊕ at l n i k ⊗ at r n k j ⊕ at l n i (k + 1) ⊗ at r n (k + 1) j) (i * n) n z) e ∙ stores-stores _ _ (i * n) n o h)
+
 pub row-end : (l r : List Float) (n i row k : ℕ) (o q p : List Float) → i * n + n ≤ length o → row ≡ i * n → q ≡ stores (λ j x. zero+ ⊕ l ! row ⊗ r ! (0 + j)) row n o → k ≡ n
     → p ≡ stores (λ j x. products k l r n i j) (i * n) n q → p ≡ stores (λ j x. products n l r n i j) (i * n) n o
 row-end l r n i row k o q p h u d g e =

@@ -2,11 +2,11 @@
 // A matrix of size n is a slice of n * n entries, row by row.
 ghost use mathlib.Core.Path.{_≡_};
 ghost use Prim.Native.Nat.{ℕ, _+_, _*_, _≤_, _<_};
-ghost use mathlib.Core.Bool.{true};
-ghost use lib.Ieee.{le};
+ghost use mathlib.Core.Bool.{true, false};
+ghost use lib.Ieee.{le, isNan};
 ghost use lib.ListN.{length};
 ghost use Rattle.loops.specs.Loop.{stores, _!_};
-ghost use Rattle.float.specs.Arith.{_⊕_, _⊗_, zero+, limit, sumOf};
+ghost use Rattle.float.specs.Arith.{_⊕_, _⊗_, zero+, limit, abs, larger, sumOf};
 ghost use Rattle.matrix.specs.Matrix.{at, identity, matMul, divAll, rowSum, norm, admitted, squarings, power, scaled, nextTerm, taylor, squared};
 ghost use Rattle.matrix.specs.Vector.{matVec};
 ghost use Rattle.matrix.specs.Calls.{products, Normed, Scaled, Added, Turned, Summed, Filled};
@@ -62,7 +62,26 @@ fn add_scaled(out: &mut [f64], at: usize, value: f64, right: &[f64], from: usize
     }
 }
 
-// Row i of left * right.
+// The next two products of a row, added one after the other.
+fn add_two(
+    out: &mut [f64],
+    at: usize,
+    value: f64,
+    right: &[f64],
+    from: usize,
+    second: f64,
+    next: usize,
+    n: usize,
+)
+    requires { ⌜ (at + n ≤ length (now out)) × (from + n ≤ length (now right)) × (next + n ≤ length (now right)) ⌝ }
+    ensures { λ _. ⌜ now (out .exit) ≡ stores (λ j x. x ⊕ value ⊗ now (right .entry) ! (from + j) ⊕ second ⊗ now (right .entry) ! (next + j)) at n (now (out .entry)) ⌝ }
+{
+    for j in 0..n {
+        out[at + j] = out[at + j] + value * right[from + j] + second * right[next + j];
+    }
+}
+
+// Row i of left * right: the first product of each entry, then two at a time.
 fn product_row(left: &[f64], right: &[f64], out: &mut [f64], i: usize, n: usize)
     requires { ⌜ (i < n) × (n ≤ 20) ⌝ }
     requires { ⌜ (length (now left) ≡ n * n) × (length (now right) ≡ n * n) × (length (now out) ≡ n * n) ⌝ }
@@ -71,7 +90,17 @@ fn product_row(left: &[f64], right: &[f64], out: &mut [f64], i: usize, n: usize)
     let row = row_start(i, n);
     let first = left[row];
     set_scaled(out, row, first, right, 0, n);
-    for k in 1..n {
+    let mut k = 1;
+    while k + 1 < n {
+        let after = k + 1;
+        let value = left[row + k];
+        let second = left[row + after];
+        let from = row_start(k, n);
+        let next = row_start(after, n);
+        add_two(out, row, value, right, from, second, next, n);
+        k += 2;
+    }
+    if k < n {
         let value = left[row + k];
         let from = row_start(k, n);
         add_scaled(out, row, value, right, from, n);
@@ -117,15 +146,23 @@ pub fn mat_vec(m: &[f64], v: [f64; 16], n: usize) -> [f64; 16]
 
 // ---- step 1: the norm
 
+// The absolute value, as selects and not as branches: signs can't be foretold.
+fn magnitude(x: f64) -> f64
+    ensures { λ r. ⌜ r ≡ abs x ⌝ }
+{
+    let size = if x < 0.0 { -x } else { x };
+    if size == 0.0 { 0.0 } else { size }
+}
+
 // The absolute values of row i, summed from the first.
 fn row_sum(m: &[f64], i: usize, n: usize) -> f64
     requires { ⌜ (i < n) × (n ≤ 20) × (length (now m) ≡ n * n) ⌝ }
     ensures { λ r. ⌜ r ≡ rowSum (now (m .entry)) n i ⌝ }
 {
     let row = row_start(i, n);
-    let mut sum = float::abs(m[row]);
+    let mut sum = magnitude(m[row]);
     for j in 1..n {
-        sum = sum + float::abs(m[row + j]);
+        sum = sum + magnitude(m[row + j]);
     }
     sum
 }
@@ -185,6 +222,14 @@ fn div_into(m: &[f64], out: &mut [f64], d: f64)
     }
 }
 
+// The larger of a number and x; a NaN is passed over.
+fn raise(big: f64, x: f64) -> f64
+    requires { ⌜ isNan big ≡ false ⌝ }
+    ensures { λ r. ⌜ r ≡ larger big x ⌝ }
+{
+    if big < x { x } else { big }
+}
+
 // Divides the term and adds it to the sum; whether it is small enough to be the last.
 fn add_term(term: &mut [f64], sum: &mut [f64], d: f64) -> bool
     requires { ⌜ length (now sum) ≡ length (now term) ⌝ }
@@ -197,8 +242,8 @@ fn add_term(term: &mut [f64], sum: &mut [f64], d: f64) -> bool
         let s = sum[p] + t;
         term[p] = t;
         sum[p] = s;
-        big = float::larger(big, float::abs(t));
-        top = float::larger(top, float::abs(s));
+        big = raise(big, magnitude(t));
+        top = raise(top, magnitude(s));
     }
     big <= 2.220446049250313e-16 * top
 }

@@ -1,11 +1,12 @@
--- `matrix::product_row` meets its contract: after the k-th turn each entry of the row is the sum of k products. Assumes nothing.
+-- `matrix::product_row` meets its contract: each entry of the row is the sum of k products. Assumes nothing.
 use Prim.Native.Nat.{_-_, _*_, _≤_}
 use mathlib.Core.Path.{_≡_}
 use native.Mathlib.Omega.{arith}
 use lib.ListN.{length}
 use Rattle.loops.specs.Loop.{stores}
 use Rattle.matrix.specs.Calls.{products}
-use Rattle.matrix.proofs.Products.{row-first, row-step, row-end}
+use Rattle.matrix.proofs.Products.{row-first, row-step, row-two, row-end}
+use Rattle.matrix.proofs.Sizes.{first}
 use Rattle.matrix.proofs.product_row.Statement.{statement}
 use Rattle.matrix.proofs.product_row.Tie as tie
 
@@ -30,6 +31,12 @@ set-scaled-requires c κs = omega arith
 loop-holds : tie.Need-loop-holds Inv-loop μ-loop
 loop-holds c = (omega arith, omega arith, omega arith, row-first _ _ _ _ _ _ _ (omega arith) (c .before .before .before .before .before .row-start .ensures .0) (c .before .before .set-scaled .ensures))
 
+add-loop : tie.Need-add-loop Inv-loop μ-loop
+add-loop c = omega arith
+
+add-after : tie.Need-add-after Inv-loop μ-loop
+add-after c = omega arith
+
 add-value : tie.Need-add-value Inv-loop μ-loop
 add-value c = omega arith
 
@@ -39,11 +46,23 @@ mul-value c = omega arith
 shared-slice-read-value : tie.Need-shared-slice-read-value Inv-loop μ-loop
 shared-slice-read-value c = omega arith
 
+add-second : tie.Need-add-second Inv-loop μ-loop
+add-second c = omega arith
+
+mul-second : tie.Need-mul-second Inv-loop μ-loop
+mul-second c = omega arith
+
+shared-slice-read-second : tie.Need-shared-slice-read-second Inv-loop μ-loop
+shared-slice-read-second c = omega arith
+
 row-start-requires-2 : tie.Need-row-start-requires-2 Inv-loop μ-loop
 row-start-requires-2 c κs = omega arith
 
-add-scaled-requires : tie.Need-add-scaled-requires Inv-loop μ-loop
-add-scaled-requires c κs = omega arith
+row-start-requires-3 : tie.Need-row-start-requires-3 Inv-loop μ-loop
+row-start-requires-3 c κs = omega arith
+
+add-two-requires : tie.Need-add-two-requires Inv-loop μ-loop
+add-two-requires c κs = omega arith
 
 add-k : tie.Need-add-k Inv-loop μ-loop
 add-k c = omega arith
@@ -52,13 +71,34 @@ loop-less : tie.Need-loop-less Inv-loop μ-loop
 loop-less c = omega arith
 
 loop-again : tie.Need-loop-again Inv-loop μ-loop
-loop-again c = (omega arith, omega arith, omega arith, row-step _ _ _ _ _ _ _ _ _ _ (omega arith) (c .before .before .before .before .before .before .before .before .before .before .before .before .before .row-start .ensures .0) (c .before .before .before .before .row-start2 .ensures .0) (c .before .before .before .before .before .before .before .loop .inv .3) (c .before .before .add-scaled .ensures))
+loop-again c = (omega arith, omega arith, omega arith, row-two _ _ _ _ _ _ _ _ _ _ _ (omega arith) (c .before .before .before .before .before .before .before .before .before .before .before .before .before .before .before .row-start .ensures .0) (c .before .before .before .before .before .row-start2 .ensures .0) (c .before .before .before .before .row-start3 .ensures .0) (c .before .before .before .before .before .before .before .before .before .loop .inv .3) (c .before .before .add-two .ensures))
+
+add-value-2 : tie.Need-add-value-2 Inv-loop μ-loop
+add-value-2 c = omega arith
+
+mul-value-2 : tie.Need-mul-value-2 Inv-loop μ-loop
+mul-value-2 c = omega arith
+
+shared-slice-read-value-2 : tie.Need-shared-slice-read-value-2 Inv-loop μ-loop
+shared-slice-read-value-2 c = omega arith
+
+row-start-requires-4 : tie.Need-row-start-requires-4 Inv-loop μ-loop
+row-start-requires-4 c κs = omega arith
+
+add-scaled-requires : tie.Need-add-scaled-requires Inv-loop μ-loop
+add-scaled-requires c κs = omega arith
 
 same-length : tie.Need-same-length Inv-loop μ-loop
 same-length c = omega arith
 
 returns : tie.Need-returns Inv-loop μ-loop
-returns c = row-end _ _ _ _ _ _ _ _ _ (omega arith) (c .before .before .before .before .before .before .before .row-start .ensures .0) (c .before .before .before .before .set-scaled .ensures) (omega arith) (c .before .loop .inv .3)
+returns c = row-end _ _ _ _ _ _ _ _ _ (omega arith) (c .before .before .before .before .before .before .before .before .before .before .before .before .before .before .row-start .ensures .0) (c .before .before .before .before .before .before .before .before .before .before .before .set-scaled .ensures) (omega arith) (row-step _ _ _ _ _ _ _ _ _ _ (omega arith) (c .before .before .before .before .before .before .before .before .before .before .before .before .before .before .row-start .ensures .0) (c .before .before .before .before .row-start4 .ensures .0) (c .before .before .before .before .before .before .before .before .loop .inv .3) (c .before .before .add-scaled .ensures))
+
+same-length-2 : tie.Need-same-length-2 Inv-loop μ-loop
+same-length-2 c = omega arith
+
+returns-2 : tie.Need-returns-2 Inv-loop μ-loop
+returns-2 c = row-end _ _ _ _ _ _ _ _ _ (omega arith) (c .before .before .before .before .before .before .before .before .row-start .ensures .0) (c .before .before .before .before .before .set-scaled .ensures) (omega arith) (c .before .before .loop .inv .3)
 
 pub product-row-spec : {M : Type 1} → statement M
 product-row-spec =
@@ -71,13 +111,26 @@ product-row-spec =
     shared-slice-read-first
     set-scaled-requires
     loop-holds
+    add-loop
+    add-after
     add-value
     mul-value
     shared-slice-read-value
+    add-second
+    mul-second
+    shared-slice-read-second
     row-start-requires-2
-    add-scaled-requires
+    row-start-requires-3
+    add-two-requires
     add-k
     loop-less
     loop-again
+    add-value-2
+    mul-value-2
+    shared-slice-read-value-2
+    row-start-requires-4
+    add-scaled-requires
     same-length
-    returns)
+    returns
+    same-length-2
+    returns-2)
