@@ -161,8 +161,8 @@ fn row_sum(m: &[f64], i: usize, n: usize) -> f64
 {
     let row = row_start(i, n);
     let mut sum = magnitude(m[row]);
-    for j in 1..n {
-        sum = sum + magnitude(m[row + j]);
+    for column in 1..n {
+        sum = sum + magnitude(m[row + column]);
     }
     sum
 }

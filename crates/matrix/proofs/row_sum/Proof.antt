@@ -1,4 +1,4 @@
--- `matrix::row_sum` meets its contract: the sum has the first j magnitudes. Assumes nothing.
+-- `matrix::row_sum` meets its contract: the sum has the first magnitudes. Assumes nothing.
 use Prim.Native.Nat.{_-_, _≤_}
 use mathlib.Core.Path.{_≡_}
 use native.Mathlib.Omega.{arith}
@@ -10,10 +10,10 @@ use Rattle.matrix.proofs.row_sum.Statement.{statement}
 use Rattle.matrix.proofs.row_sum.Tie as tie
 
 abbrev Inv-loop : tie.InvT-loop
-Inv-loop m i n row sum₀ j₀ sum j = (1 ≤ j) × (j ≤ n) × (sum ≡ sumOf j (λ k. abs (at m n i k)))
+Inv-loop m i n row sum₀ column₀ sum column = (1 ≤ column) × (column ≤ n) × (sum ≡ sumOf column (λ k. abs (at m n i k)))
 
 abbrev μ-loop : tie.MeasureT-loop
-μ-loop m i n row sum₀ j₀ sum j = n - j
+μ-loop m i n row sum₀ column₀ sum column = n - column
 
 row-start-requires : tie.Need-row-start-requires Inv-loop μ-loop
 row-start-requires c κs = omega arith
@@ -42,8 +42,8 @@ shared-slice-read-magnitude-2 c = omega arith
 magnitude-requires-2 : tie.Need-magnitude-requires-2 Inv-loop μ-loop
 magnitude-requires-2 c κs = omega arith
 
-add-j : tie.Need-add-j Inv-loop μ-loop
-add-j c = omega arith
+add-column : tie.Need-add-column Inv-loop μ-loop
+add-column c = omega arith
 
 loop-less : tie.Need-loop-less Inv-loop μ-loop
 loop-less c = omega arith
@@ -70,7 +70,7 @@ row-sum-spec =
     mul-magnitude-2
     shared-slice-read-magnitude-2
     magnitude-requires-2
-    add-j
+    add-column
     loop-less
     loop-again
     returns)
