@@ -9,7 +9,7 @@ ghost use Rattle.loops.specs.Loop.{stores, _!_};
 ghost use Rattle.float.specs.Arith.{_⊕_, _⊗_, zero+, limit, abs, larger, sumOf};
 ghost use Rattle.matrix.specs.Matrix.{at, identity, matMul, divAll, rowSum, norm, admitted, squarings, power, scaled, nextTerm, taylor, squared};
 ghost use Rattle.matrix.specs.Vector.{matVec};
-ghost use Rattle.matrix.specs.Calls.{products, Normed, Scaled, Added, Turned, Summed, Filled};
+ghost use Rattle.matrix.specs.Calls.{products, Started, Normed, Scaled, Added, Turned, Summed, Filled};
 
 // Where row i of a matrix of size n begins.
 fn row_start(i: usize, n: usize) -> usize
@@ -42,23 +42,31 @@ pub fn identity(out: &mut [f64], n: usize)
     }
 }
 
-// The first products of a row: 0.0 + value * right[from + j] at out[at + j], for each j below n.
-fn set_scaled(out: &mut [f64], at: usize, value: f64, right: &[f64], from: usize, n: usize)
-    requires { ⌜ (at + n ≤ length (now out)) × (from + n ≤ length (now right)) ⌝ }
-    ensures { λ _. ⌜ now (out .exit) ≡ stores (λ j x. zero+ ⊕ value ⊗ now (right .entry) ! (from + j)) at n (now (out .entry)) ⌝ }
+// The first product of each entry of a row: 0.0 + value * right[j] at out[at + j].
+fn set_one(out: &mut [f64], at: usize, value: f64, right: &[f64], n: usize)
+    requires { ⌜ (at + n ≤ length (now out)) × (n ≤ length (now right)) ⌝ }
+    ensures { λ _. ⌜ now (out .exit) ≡ stores (λ j x. zero+ ⊕ value ⊗ now (right .entry) ! j) at n (now (out .entry)) ⌝ }
 {
     for j in 0..n {
-        out[at + j] = 0.0 + value * right[from + j];
+        out[at + j] = 0.0 + value * right[j];
     }
 }
 
-// The next products of a row, added to what stands there.
-fn add_scaled(out: &mut [f64], at: usize, value: f64, right: &[f64], from: usize, n: usize)
-    requires { ⌜ (at + n ≤ length (now out)) × (from + n ≤ length (now right)) ⌝ }
-    ensures { λ _. ⌜ now (out .exit) ≡ stores (λ j x. x ⊕ value ⊗ now (right .entry) ! (from + j)) at n (now (out .entry)) ⌝ }
+// The first two products of each entry, added one after the other.
+fn set_two(
+    out: &mut [f64],
+    at: usize,
+    value: f64,
+    right: &[f64],
+    second: f64,
+    next: usize,
+    n: usize,
+)
+    requires { ⌜ (at + n ≤ length (now out)) × (n ≤ length (now right)) × (next + n ≤ length (now right)) ⌝ }
+    ensures { λ _. ⌜ now (out .exit) ≡ stores (λ j x. zero+ ⊕ value ⊗ now (right .entry) ! j ⊕ second ⊗ now (right .entry) ! (next + j)) at n (now (out .entry)) ⌝ }
 {
     for j in 0..n {
-        out[at + j] = out[at + j] + value * right[from + j];
+        out[at + j] = 0.0 + value * right[j] + second * right[next + j];
     }
 }
 
@@ -81,17 +89,34 @@ fn add_two(
     }
 }
 
-// Row i of left * right: the first product of each entry, then two at a time.
+// The first product of each entry of row i, or the first two, so that the rest comes in pairs; how
+// many they are.
+fn first_products(left: &[f64], right: &[f64], out: &mut [f64], i: usize, n: usize) -> usize
+    requires { ⌜ (i < n) × (n ≤ 20) ⌝ }
+    requires { ⌜ (length (now left) ≡ n * n) × (length (now right) ≡ n * n) × (length (now out) ≡ n * n) ⌝ }
+    ensures { λ r. ⌜ Started (now (left .entry)) (now (right .entry)) i n r (now (out .entry)) (now (out .exit)) ⌝ }
+{
+    let row = row_start(i, n);
+    let value = left[row];
+    if n % 2 == 1 {
+        set_one(out, row, value, right, n);
+        return 1;
+    }
+    let second = left[row + 1];
+    let next = row_start(1, n);
+    set_two(out, row, value, right, second, next, n);
+    2
+}
+
+// Row i of left * right.
 fn product_row(left: &[f64], right: &[f64], out: &mut [f64], i: usize, n: usize)
     requires { ⌜ (i < n) × (n ≤ 20) ⌝ }
     requires { ⌜ (length (now left) ≡ n * n) × (length (now right) ≡ n * n) × (length (now out) ≡ n * n) ⌝ }
     ensures { λ _. ⌜ now (out .exit) ≡ stores (λ j x. products n (now (left .entry)) (now (right .entry)) n i j) (i * n) n (now (out .entry)) ⌝ }
 {
     let row = row_start(i, n);
-    let first = left[row];
-    set_scaled(out, row, first, right, 0, n);
-    let mut k = 1;
-    while k + 1 < n {
+    let mut k = first_products(left, right, out, i, n);
+    while k < n {
         let after = k + 1;
         let value = left[row + k];
         let second = left[row + after];
@@ -99,11 +124,6 @@ fn product_row(left: &[f64], right: &[f64], out: &mut [f64], i: usize, n: usize)
         let next = row_start(after, n);
         add_two(out, row, value, right, from, second, next, n);
         k += 2;
-    }
-    if k < n {
-        let value = left[row + k];
-        let from = row_start(k, n);
-        add_scaled(out, row, value, right, from, n);
     }
 }
 

@@ -1,38 +1,29 @@
 -- `matrix::product_row` meets its contract: each entry of the row is the sum of k products. Assumes nothing.
-use Prim.Native.Nat.{_-_, _*_, _≤_}
+use Prim.Native.Nat.{_-_, _*_, _%_, _≤_}
 use mathlib.Core.Path.{_≡_}
 use native.Mathlib.Omega.{arith}
 use lib.ListN.{length}
 use Rattle.loops.specs.Loop.{stores}
 use Rattle.matrix.specs.Calls.{products}
-use Rattle.matrix.proofs.Products.{row-first, row-step, row-two, row-end}
-use Rattle.matrix.proofs.Sizes.{first}
+use Rattle.matrix.proofs.Rows.{room}
+use Rattle.matrix.proofs.Products.{row-first, row-two, pair-even, pair-room, row-end}
 use Rattle.matrix.proofs.product_row.Statement.{statement}
 use Rattle.matrix.proofs.product_row.Tie as tie
 
 abbrev Inv-loop : tie.InvT-loop
-Inv-loop left right out₀ i n row first k₀ out k = (1 ≤ k) × (k ≤ n) × (length out ≡ n * n) × (out ≡ stores (λ j x. products k left right n i j) (i * n) n out₀)
+Inv-loop left right out₀ i n row k₀ out k = (k % 2 ≡ n % 2) × (k ≤ n) × (length out ≡ n * n) × (out ≡ stores (λ j x. products k left right n i j) (i * n) n out₀)
 
 abbrev μ-loop : tie.MeasureT-loop
-μ-loop left right out₀ i n row first k₀ out k = n - k
+μ-loop left right out₀ i n row k₀ out k = n - k
 
 row-start-requires : tie.Need-row-start-requires Inv-loop μ-loop
 row-start-requires c κs = omega arith
 
-mul-first : tie.Need-mul-first Inv-loop μ-loop
-mul-first c = omega arith
-
-shared-slice-read-first : tie.Need-shared-slice-read-first Inv-loop μ-loop
-shared-slice-read-first c = omega arith
-
-set-scaled-requires : tie.Need-set-scaled-requires Inv-loop μ-loop
-set-scaled-requires c κs = omega arith
+first-products-requires : tie.Need-first-products-requires Inv-loop μ-loop
+first-products-requires c κs = omega arith
 
 loop-holds : tie.Need-loop-holds Inv-loop μ-loop
-loop-holds c = (omega arith, omega arith, omega arith, row-first _ _ _ _ _ _ _ (omega arith) (c .before .before .before .before .before .row-start .ensures .0) (c .before .before .set-scaled .ensures))
-
-add-loop : tie.Need-add-loop Inv-loop μ-loop
-add-loop c = omega arith
+loop-holds c = (c .before .before .first-products .ensures .even, c .before .before .first-products .ensures .room, omega arith, row-first _ _ _ _ _ _ _ (omega arith) (c .before .before .first-products .ensures))
 
 add-after : tie.Need-add-after Inv-loop μ-loop
 add-after c = omega arith
@@ -71,34 +62,13 @@ loop-less : tie.Need-loop-less Inv-loop μ-loop
 loop-less c = omega arith
 
 loop-again : tie.Need-loop-again Inv-loop μ-loop
-loop-again c = (omega arith, omega arith, omega arith, row-two _ _ _ _ _ _ _ _ _ _ _ (omega arith) (c .before .before .before .before .before .before .before .before .before .before .before .before .before .before .before .row-start .ensures .0) (c .before .before .before .before .before .row-start2 .ensures .0) (c .before .before .before .before .row-start3 .ensures .0) (c .before .before .before .before .before .before .before .before .before .loop .inv .3) (c .before .before .add-two .ensures))
-
-add-value-2 : tie.Need-add-value-2 Inv-loop μ-loop
-add-value-2 c = omega arith
-
-mul-value-2 : tie.Need-mul-value-2 Inv-loop μ-loop
-mul-value-2 c = omega arith
-
-shared-slice-read-value-2 : tie.Need-shared-slice-read-value-2 Inv-loop μ-loop
-shared-slice-read-value-2 c = omega arith
-
-row-start-requires-4 : tie.Need-row-start-requires-4 Inv-loop μ-loop
-row-start-requires-4 c κs = omega arith
-
-add-scaled-requires : tie.Need-add-scaled-requires Inv-loop μ-loop
-add-scaled-requires c κs = omega arith
+loop-again c = (pair-even _ _ (c .before .before .before .before .before .before .before .before .before .loop .inv .0), pair-room _ _ (c .before .before .before .before .before .before .before .before .before .loop .inv .0) (c .before .before .before .before .before .before .before .before .loop-test .taken), omega arith, row-two _ _ _ _ _ _ _ _ _ _ _ (omega arith) (c .before .before .before .before .before .before .before .before .before .before .before .before .before .before .row-start .ensures .0) (c .before .before .before .before .before .row-start2 .ensures .0) (c .before .before .before .before .row-start3 .ensures .0) (c .before .before .before .before .before .before .before .before .before .loop .inv .3) (c .before .before .add-two .ensures))
 
 same-length : tie.Need-same-length Inv-loop μ-loop
 same-length c = omega arith
 
 returns : tie.Need-returns Inv-loop μ-loop
-returns c = row-end _ _ _ _ _ _ _ _ _ (omega arith) (c .before .before .before .before .before .before .before .before .before .before .before .before .before .before .row-start .ensures .0) (c .before .before .before .before .before .before .before .before .before .before .before .set-scaled .ensures) (omega arith) (row-step _ _ _ _ _ _ _ _ _ _ (omega arith) (c .before .before .before .before .before .before .before .before .before .before .before .before .before .before .row-start .ensures .0) (c .before .before .before .before .row-start4 .ensures .0) (c .before .before .before .before .before .before .before .before .loop .inv .3) (c .before .before .add-scaled .ensures))
-
-same-length-2 : tie.Need-same-length-2 Inv-loop μ-loop
-same-length-2 c = omega arith
-
-returns-2 : tie.Need-returns-2 Inv-loop μ-loop
-returns-2 c = row-end _ _ _ _ _ _ _ _ _ (omega arith) (c .before .before .before .before .before .before .before .before .row-start .ensures .0) (c .before .before .before .before .before .set-scaled .ensures) (omega arith) (c .before .before .loop .inv .3)
+returns c = row-end _ _ _ _ _ _ _ _ _ (omega arith) (c .before .before .before .before .first-products .ensures) (omega arith) (c .before .loop .inv .3)
 
 pub product-row-spec : {M : Type 1} → statement M
 product-row-spec =
@@ -107,11 +77,8 @@ product-row-spec =
     Inv-loop
     μ-loop
     row-start-requires
-    mul-first
-    shared-slice-read-first
-    set-scaled-requires
+    first-products-requires
     loop-holds
-    add-loop
     add-after
     add-value
     mul-value
@@ -125,12 +92,5 @@ product-row-spec =
     add-k
     loop-less
     loop-again
-    add-value-2
-    mul-value-2
-    shared-slice-read-value-2
-    row-start-requires-4
-    add-scaled-requires
     same-length
-    returns
-    same-length-2
-    returns-2)
+    returns)
