@@ -1,1 +1,12 @@
 pub mod Vectors
+pub mod Rows
+pub mod Products
+pub mod Sizes
+pub mod Powers
+pub mod Series
+pub mod Row
+pub mod Terms
+pub mod Stop
+pub mod Scaled
+pub mod Claims
+pub mod Whole

@@ -1,2 +1,4 @@
 pub mod Matrix
 pub mod Vector
+pub mod Calls
+pub mod Claims

@@ -1,0 +1,38 @@
+-- What matrix_exp hands on from step to step, and what it leaves. Assumes nothing.
+use Prim.Native.Nat.{ℕ, _+_, _*_, _<_, _≤_}
+use mathlib.Core.Path.{_≡_, refl, sym, ap, _∙_}
+use mathlib.Core.Bool.{Bool, true, false, cond, not}
+use mathlib.Core.List.{List}
+use borrow.Author.Tests.{not-true, not-false}
+use lib.Dec.{T}
+use lib.ListN.{length}
+use lib.Ieee.{Float, binary64, fits, le}
+use Rattle.loops.specs.Loop.{_!_}
+use Rattle.float.specs.Arith.{limit}
+use Rattle.matrix.specs.Matrix.{taylor, scaled, squared, norm, admitted, squarings, exponential}
+use Rattle.matrix.specs.Claims.{Admitted}
+use Rattle.matrix.specs.Calls.{Normed, Scaled, Filled}
+use Rattle.matrix.proofs.Powers.{norm-limit}
+use Rattle.matrix.proofs.Claims.{stops-at-15}
+
+module _ (m : List Float) (n : ℕ) (ok : Bool) (x : Float) (h : Normed m n ok x) (k : not ok ≡ false) where
+  is-admitted : admitted m n ≡ true
+  is-admitted = sym (h .test) ∙ not-false ok k
+
+  pub norm-admitted : le x limit ≡ true
+  norm-admitted = rw (h .largest) (norm-limit m n is-admitted)
+
+pub few : (m : List Float) (n : ℕ) (ok : Bool) (x : Float) (c : ℕ) (d : Float) → n ≤ 20 → length m ≡ n * n → ((p : ℕ) → T (fits binary64 (m ! p))) → Normed m n ok x → not ok ≡ false → Scaled x c d → taylor (scaled m c) n .terms ≤ 15
+unfolding exponential
+few m n ok x c d l w f h k s =
+    rw (s .number, h .largest) (stops-at-15 m n (record { size = l; places = w; doubles = λ p _. f p; rows = is-admitted m n ok x h k }))
+
+pub refused : (m o : List Float) (n : ℕ) (ok : Bool) (x : Float) → Normed m n ok x → not ok ≡ true → Filled m n o o false
+refused m o n ok x h k = let e : admitted m n ≡ false = sym (h .test) ∙ not-true ok k in record { test = sym e; output = rw e }
+
+pub done : (m o p : List Float) (n c : ℕ) (ok : Bool) (x d : Float) → Normed m n ok x → not ok ≡ false → Scaled x c d → p ≡ squared c (taylor (scaled m c) n .sum) n → Filled m n o p true
+unfolding exponential
+done m o p n c ok x d h k s e =
+    let a : admitted m n ≡ true = sym (h .test) ∙ not-false ok k in
+    let b : c ≡ squarings (norm m n) = rw (h .largest) at (s .number) in
+    record { test = sym a; output = rw (a, ← b) e }

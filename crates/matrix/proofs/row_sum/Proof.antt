@@ -1,0 +1,76 @@
+-- `matrix::row_sum` meets its contract: the sum has the first magnitudes. Assumes nothing.
+use Prim.Native.Nat.{_-_, _≤_}
+use mathlib.Core.Path.{_≡_}
+use native.Mathlib.Omega.{arith}
+use Rattle.float.specs.Arith.{abs, sumOf}
+use Rattle.float.proofs.Sums.{sum-first, sum-step, sum-end}
+use Rattle.matrix.specs.Matrix.{at, rowSum}
+use native.Mathlib.Nat.{add-zero}
+use Rattle.matrix.proofs.row_sum.Statement.{statement}
+use Rattle.matrix.proofs.row_sum.Tie as tie
+
+abbrev Inv-loop : tie.InvT-loop
+Inv-loop m i n row sum₀ column₀ sum column = (1 ≤ column) × (column ≤ n) × (sum ≡ sumOf column (λ k. abs (at m n i k)))
+
+abbrev μ-loop : tie.MeasureT-loop
+μ-loop m i n row sum₀ column₀ sum column = n - column
+
+row-start-requires : tie.Need-row-start-requires Inv-loop μ-loop
+row-start-requires c κs = omega arith
+
+mul-magnitude : tie.Need-mul-magnitude Inv-loop μ-loop
+mul-magnitude c = omega arith
+
+shared-slice-read-magnitude : tie.Need-shared-slice-read-magnitude Inv-loop μ-loop
+shared-slice-read-magnitude c = omega arith
+
+magnitude-requires : tie.Need-magnitude-requires Inv-loop μ-loop
+magnitude-requires c κs = omega arith
+
+loop-holds : tie.Need-loop-holds Inv-loop μ-loop
+loop-holds c = (omega arith, omega arith, sum-first _ _ (rw (add-zero, ← c .before .before .row-start .ensures .0) (c .magnitude .ensures)))
+
+add-magnitude : tie.Need-add-magnitude Inv-loop μ-loop
+add-magnitude c = omega arith
+
+mul-magnitude-2 : tie.Need-mul-magnitude-2 Inv-loop μ-loop
+mul-magnitude-2 c = omega arith
+
+shared-slice-read-magnitude-2 : tie.Need-shared-slice-read-magnitude-2 Inv-loop μ-loop
+shared-slice-read-magnitude-2 c = omega arith
+
+magnitude-requires-2 : tie.Need-magnitude-requires-2 Inv-loop μ-loop
+magnitude-requires-2 c κs = omega arith
+
+add-column : tie.Need-add-column Inv-loop μ-loop
+add-column c = omega arith
+
+loop-less : tie.Need-loop-less Inv-loop μ-loop
+loop-less c = omega arith
+
+loop-again : tie.Need-loop-again Inv-loop μ-loop
+loop-again c = (omega arith, omega arith, sum-step _ _ _ _ (c .before .before .before .loop .inv .2) (rw (← c .before .before .before .before .before .before .row-start .ensures .0) (c .magnitude2 .ensures)) (omega arith))
+
+returns : tie.Need-returns Inv-loop μ-loop
+unfolding rowSum
+returns c = sum-end _ _ _ _ (c .before .loop .inv .2) (omega arith)
+
+pub row-sum-spec : {M : Type 1} → statement M
+row-sum-spec =
+    tie.close
+    (tie.spec
+    Inv-loop
+    μ-loop
+    row-start-requires
+    mul-magnitude
+    shared-slice-read-magnitude
+    magnitude-requires
+    loop-holds
+    add-magnitude
+    mul-magnitude-2
+    shared-slice-read-magnitude-2
+    magnitude-requires-2
+    add-column
+    loop-less
+    loop-again
+    returns)
