@@ -1,4 +1,4 @@
--- What the vector loops leave after i turns, where the lent matrices end, and what the exponentials' two outcomes are. Assumes nothing.
+-- Places of a matrix, where the lent ones end, and what the exponentials' two outcomes are. Assumes nothing.
 use Prim.Native.Nat.{ℕ, zero, suc, _+_, _-_, _*_, _/_, _%_, _<_, _≤_}
 use mathlib.Core.Path.{_≡_, refl, sym, ap, _∙_}
 use mathlib.Core.Bool.{Bool, true, false, cond}
@@ -13,22 +13,11 @@ use Rattle.loops.proofs.Loops.{fill-none, fill-step, fill-end}
 use Rattle.loops.proofs.Places.{row-fits, row-below, mat-all, size-some}
 use Rattle.float.specs.Arith.{_⊗_}
 use Rattle.matrix.specs.Matrix.{at, admitted, exponential}
+use Rattle.matrix.specs.Calls.{Filled}
 use Rattle.matrix.specs.Vector.{zeros, vec, matVec}
 use Rattle.methods.specs.declared.Action.{Action}
 use Rattle.methods.specs.Phi.{checked, augmentedEntry, augmented, phiAction, expAction}
 use Rattle.methods.specs.Parts.{phiInto}
-
--- ---- a vector's loop: no turn, one turn more, and the last
-pub vec-none : (f : ℕ → Float) → replicate 16 (ofBits binary64 0) ≡ vec 0 f
-unfolding vec zeros
-vec-none f = fill-none f zeros
-
-pub vec-step : (f : ℕ → Float) (i : ℕ) (x : List Float) → x ≡ vec i f → i < 16 → set x i (f i) ≡ vec (i + 1) f
-unfolding vec zeros
-vec-step f i x e h = fill-step nan f i zeros x e h
-
-pub vec-end : (f : ℕ → Float) (i n : ℕ) (x : List Float) → x ≡ vec i f → i ≡ n → x ≡ vec n f
-vec-end f i n x e h = rw (← h) e
 
 -- ---- places of a matrix
 pub row-small : (i n k : ℕ) → i < n → n ≤ k → (i * n + n ≤ n * n) × (n * n ≤ k * k)
@@ -46,22 +35,22 @@ area n order h k = let l : n + order ≤ 20 = omega arith in mul-le-mul l l
 
 -- ---- the two outcomes of an exponential
 module _ (n : ℕ) (a : List Float) (c : Float) (x : List Float) (m e d : List Float) (r : Bool) where
-  pub phi-ok : (size : ℕ) (v : List Float) → m ≡ mat size (augmentedEntry n a c x) → (r ≡ admitted m size) × (e ≡ cond (admitted m size) (exponential m size .entries) d) → r ≡ true
+  pub phi-ok : (size : ℕ) (v : List Float) → m ≡ mat size (augmentedEntry n a c x) → Filled m size d e r → r ≡ true
       → v ≡ vec n (λ i. at e size i (size - 1)) → record { ok = true; v = v } ≡ phiInto n a c x size
   unfolding phiInto checked
-  phi-ok size v p q t w = rw (w, q .1, ← p, ← (q .0), t)
+  phi-ok size v p q t w = rw (w, q .output, ← p, ← (q .test), t)
 
-  pub phi-bad : (size : ℕ) → m ≡ mat size (augmentedEntry n a c x) → (r ≡ admitted m size) × (e ≡ cond (admitted m size) (exponential m size .entries) d) → r ≡ false
+  pub phi-bad : (size : ℕ) → m ≡ mat size (augmentedEntry n a c x) → Filled m size d e r → r ≡ false
       → record { ok = false; v = replicate 16 (ofBits binary64 0) } ≡ phiInto n a c x size
   unfolding phiInto checked zeros
-  phi-bad size p q t = rw (← p, ← (q .0), t)
+  phi-bad size p q t = rw (← p, ← (q .test), t)
 
-  pub exp-ok : (v : List Float) → m ≡ mat n (λ i j. c ⊗ at a n i j) → (r ≡ admitted m n) × (e ≡ cond (admitted m n) (exponential m n .entries) d) → r ≡ true
+  pub exp-ok : (v : List Float) → m ≡ mat n (λ i j. c ⊗ at a n i j) → Filled m n d e r → r ≡ true
       → v ≡ matVec n e x → record { ok = true; v = v } ≡ expAction n a c x
   unfolding expAction checked
-  exp-ok v p q t w = rw (w, q .1, ← p, ← (q .0), t)
+  exp-ok v p q t w = rw (w, q .output, ← p, ← (q .test), t)
 
-  pub exp-bad : m ≡ mat n (λ i j. c ⊗ at a n i j) → (r ≡ admitted m n) × (e ≡ cond (admitted m n) (exponential m n .entries) d) → r ≡ false
+  pub exp-bad : m ≡ mat n (λ i j. c ⊗ at a n i j) → Filled m n d e r → r ≡ false
       → record { ok = false; v = replicate 16 (ofBits binary64 0) } ≡ expAction n a c x
   unfolding expAction checked zeros
-  exp-bad p q t = rw (← p, ← (q .0), t)
+  exp-bad p q t = rw (← p, ← (q .test), t)

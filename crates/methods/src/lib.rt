@@ -1,6 +1,6 @@
 // methods.rs: the sixteen schemes. Every pass is replayed over the answers so far.
 ghost use mathlib.Core.Path.{_≡_};
-ghost use mathlib.Core.Bool.{true, cond, _&&_};
+ghost use mathlib.Core.Bool.{cond, _&&_};
 ghost use Prim.Native.Nat.{ℕ, _+_, _-_, _*_, _≤_, _<_};
 ghost use mathlib.Core.List.{List, [], _∷_};
 ghost use lib.Ieee.{Float};
@@ -8,11 +8,11 @@ ghost use lib.ListN.{length};
 ghost use Rattle.float.specs.Arith.{_⊗_, _⊘_, finite};
 ghost use Rattle.loops.specs.Loop.{mat};
 ghost use Rattle.evaluation.specs.Evaluation.{allFinite};
-ghost use Rattle.matrix.specs.Matrix.{at, admitted, exponential};
+ghost use Rattle.matrix.specs.Matrix.{at};
 ghost use Rattle.matrix.specs.Vector.{vec, matVec};
 ghost use Rattle.methods.specs.Numbers.{num, minus};
 ghost use Rattle.methods.specs.Vectors.{Sized, add, subtract, scale, axpy, combine};
-ghost use Rattle.methods.specs.Phi.{over, augmentedEntry, augmented, phiAction, phiTerm, expAction};
+ghost use Rattle.methods.specs.Phi.{over, augmentedEntry, phiAction, phiTerm, expAction};
 ghost use Rattle.methods.specs.Pass.{answer, asks, ends, fails, replay, stand};
 ghost use Rattle.methods.specs.Parts.{more, phiInto, a52Of, a54Of};
 ghost use Rattle.methods.specs.Schemes.{lawsonEuler, norsettEuler, etdrk2, etdrk3, etdrk4, a52, hochOst4, exp4, epirk4s3, epirk4s3A, epirk4s3B, epirk5s3, exprb53s3, epirk5p1, epirk5p2, etd2, exprb32, exprb43};
@@ -58,25 +58,6 @@ pub struct StepResult {
     pub state: [f64; 16],
     pub error: [f64; 16],
     pub nonlinear: [f64; 16],
-}
-
-// Stands in for the layer below.
-pub fn mat_vec(m: &[f64], v: [f64; 16], n: usize) -> [f64; 16]
-    requires { ⌜ (n ≤ 16) × (length (now m) ≡ n * n) ⌝ }
-    ensures { λ r. ⌜ r ≡ matVec n (now (m .entry)) v ⌝ }
-{
-    [0.0; 16]
-}
-
-// Stands in for the layer below.
-pub fn matrix_exp(m: &[f64], out: &mut [f64], n: usize) -> bool
-    requires { ⌜ 1 ≤ n ⌝ }
-    requires { ⌜ n ≤ 20 ⌝ }
-    requires { ⌜ length (now m) ≡ n * n ⌝ }
-    requires { ⌜ length (now out) ≡ n * n ⌝ }
-    ensures { λ r. ⌜ (r ≡ admitted (now (m .entry)) n) × (now (out .exit) ≡ cond (admitted (now (m .entry)) n) (exponential (now (m .entry)) n .entries) (now (out .entry))) ⌝ }
-{
-    false
 }
 
 // ---- vectors
@@ -215,7 +196,7 @@ fn phi_into(
     ensures { λ r. ⌜ r ≡ phiInto n (now (a .entry)) «scale_a» input size ⌝ }
 {
     augment(a, scale_a, input, n, m, size);
-    if matrix_exp(m, e, size) {
+    if matrix::matrix_exp(m, e, size) {
         Action {
             ok: true,
             v: last_column(e, size, n),
@@ -228,7 +209,8 @@ fn phi_into(
     }
 }
 
-// The first n entries of the last column of the augmented matrix's exponential.
+// The first n entries of the last column of the augmented matrix's exponential. The room that is lent
+// is no larger than its size class.
 pub fn phi_action(a: &[f64], scale_a: f64, order: usize, input: [f64; 16], n: usize) -> Action
     requires { ⌜ Sized n (now a) ⌝ }
     requires { ⌜ (1 ≤ order) × (order ≤ 4) ⌝ }
@@ -236,6 +218,21 @@ pub fn phi_action(a: &[f64], scale_a: f64, order: usize, input: [f64; 16], n: us
 {
     let size = n + order;
     let count = size * size;
+    if count <= 16 {
+        let mut m = [0.0; 16];
+        let mut e = [0.0; 16];
+        return phi_into(a, scale_a, input, n, &mut m[..count], &mut e[..count], size);
+    }
+    if count <= 64 {
+        let mut m = [0.0; 64];
+        let mut e = [0.0; 64];
+        return phi_into(a, scale_a, input, n, &mut m[..count], &mut e[..count], size);
+    }
+    if count <= 144 {
+        let mut m = [0.0; 144];
+        let mut e = [0.0; 144];
+        return phi_into(a, scale_a, input, n, &mut m[..count], &mut e[..count], size);
+    }
     let mut m = [0.0; 400];
     let mut e = [0.0; 400];
     phi_into(a, scale_a, input, n, &mut m[..count], &mut e[..count], size)
@@ -286,10 +283,10 @@ fn exp_into(
     ensures { λ r. ⌜ r ≡ expAction n (now (a .entry)) «scale_a» input ⌝ }
 {
     scale_matrix(a, scale_a, m, n);
-    if matrix_exp(m, e, n) {
+    if matrix::matrix_exp(m, e, n) {
         Action {
             ok: true,
-            v: mat_vec(e, input, n),
+            v: matrix::mat_vec(e, input, n),
         }
     } else {
         Action {
@@ -305,6 +302,16 @@ pub fn exp_action(a: &[f64], scale_a: f64, input: [f64; 16], n: usize) -> Action
     ensures { λ r. ⌜ r ≡ expAction n (now (a .entry)) «scale_a» input ⌝ }
 {
     let count = n * n;
+    if count <= 16 {
+        let mut m = [0.0; 16];
+        let mut e = [0.0; 16];
+        return exp_into(a, scale_a, input, n, &mut m[..count], &mut e[..count]);
+    }
+    if count <= 64 {
+        let mut m = [0.0; 64];
+        let mut e = [0.0; 64];
+        return exp_into(a, scale_a, input, n, &mut m[..count], &mut e[..count]);
+    }
     let mut m = [0.0; 256];
     let mut e = [0.0; 256];
     exp_into(a, scale_a, input, n, &mut m[..count], &mut e[..count])
@@ -407,7 +414,7 @@ fn shifted_stage(
     ensures { λ r. ⌜ r ≡ axpy n (axpy n (answer n (now (answers .entry)) j) (minus 1) (matVec n (now (a .entry)) stage)) (num 1) au ⌝ }
 {
     let value = evaluated(answers, j, n);
-    let product = mat_vec(a, stage, n);
+    let product = matrix::mat_vec(a, stage, n);
     axpy(axpy(value, -1.0, product, n), 1.0, au, n)
 }
 
@@ -427,7 +434,7 @@ fn remainder(
     ensures { λ r. ⌜ r ≡ axpy n (axpy n (answer n (now (answers .entry)) j) (minus 1) f0) (minus 1) (matVec n (now (a .entry)) (subtract n stage base)) ⌝ }
 {
     let value = evaluated(answers, j, n);
-    let product = mat_vec(a, subtract(stage, base, n), n);
+    let product = matrix::mat_vec(a, subtract(stage, base, n), n);
     axpy(axpy(value, -1.0, f0, n), -1.0, product, n)
 }
 
@@ -532,7 +539,7 @@ fn etdrk2(
         return asked(ok, u2, t + h);
     }
     let f2 = evaluated(answers, first, n);
-    let g2 = subtract(f2, mat_vec(a, u2, n), n);
+    let g2 = subtract(f2, matrix::mat_vec(a, u2, n), n);
     let difference = subtract(g2, g0, n);
     let s = added(u2, phi_term(a, h, 2, h, difference, n), n);
     let x = s.v;
@@ -617,7 +624,7 @@ fn etdrk4(
     }
     let f3 = shifted_stage(a, u3, au, answers, first + 1, n);
     let combination = axpy(axpy(scale(f3, 2.0, n), -1.0, f1, n), -1.0, au, n);
-    let combination = axpy(combination, 1.0, mat_vec(a, u2, n), n);
+    let combination = axpy(combination, 1.0, matrix::mat_vec(a, u2, n), n);
     let s4 = after(u2, 1.0, phi_term(a, half, 1, half, combination, n), n);
     let u4 = s4.v;
     let ok = may_ask(ok & s4.ok, u4, t + h);
@@ -1394,7 +1401,7 @@ pub fn perform_step(
     let n = p.n;
     let u = p.state;
     let f0 = p.f0;
-    let au = mat_vec(a, u, n);
+    let au = matrix::mat_vec(a, u, n);
     let nonlinear0 = subtract(f0, au, n);
     let good = evaluation::all_finite(&au) & evaluation::all_finite(&nonlinear0);
     if good {

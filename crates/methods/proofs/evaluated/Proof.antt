@@ -5,7 +5,7 @@ use mathlib.Core.Path.{_≡_}
 use Rattle.loops.specs.Loop.{_!_}
 use Rattle.matrix.specs.Vector.{vec}
 use Rattle.methods.specs.Pass.{answer}
-use Rattle.methods.proofs.Laws.{vec-none, vec-step, vec-end}
+use Rattle.matrix.proofs.Vectors.{vec-none, vec-step, vec-end}
 use Rattle.methods.proofs.evaluated.Statement.{statement}
 use Rattle.methods.proofs.evaluated.Tie as tie
 

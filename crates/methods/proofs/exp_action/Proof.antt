@@ -1,4 +1,4 @@
--- `methods::exp_action`: it lends two matrices. Assumes nothing.
+-- `methods::exp_action`: it lends two matrices, as large as the size asks. Assumes nothing.
 use native.Mathlib.Omega.{arith}
 use mathlib.Core.Path.{sym}
 use native.Mathlib.Nat.{mul-le-mul}
@@ -11,11 +11,23 @@ exp-action-spec =
     tie.close
     (tie.spec
     (λ c. omega (arith, mul-le-mul (c .before .pre .small) (c .before .pre .small)))
-    (λ c. mul-le-mul (c .before .pre .small) (c .before .pre .small))
-    (λ c. sym (length-take-le _ _ (mul-le-mul (c .before .before .pre .small) (c .before .before .pre .small))))
-    (λ c. mul-le-mul (c .before .before .pre .small) (c .before .before .pre .small))
-    (λ c. sym (length-take-le _ _ (mul-le-mul (c .before .before .before .pre .small) (c .before .before .before .pre .small))))
+    (λ c. c .if1 .taken)
+    (λ c. sym (length-take-le _ _ (c .before .if1 .taken)))
+    (λ c. c .before .if1 .taken)
+    (λ c. sym (length-take-le _ _ (c .before .before .if1 .taken)))
+    (λ c κs. (c .before .before .before .before .pre, (length-take-le _ _ (c .before .before .if1 .taken), length-take-le _ _ (c .before .before .if1 .taken))))
+    (λ c. c .before .before .exp-into .ensures)
+    (λ c. c .if2 .taken)
+    (λ c. sym (length-take-le _ _ (c .before .if2 .taken)))
+    (λ c. c .before .if2 .taken)
+    (λ c. sym (length-take-le _ _ (c .before .before .if2 .taken)))
+    (λ c κs. (c .before .before .before .before .before .pre, (length-take-le _ _ (c .before .before .if2 .taken), length-take-le _ _ (c .before .before .if2 .taken))))
+    (λ c. c .before .before .exp-into2 .ensures)
+    (λ c. mul-le-mul (c .before .before .before .pre .small) (c .before .before .before .pre .small))
+    (λ c. sym (length-take-le _ _ (mul-le-mul (c .before .before .before .before .pre .small) (c .before .before .before .before .pre .small))))
+    (λ c. mul-le-mul (c .before .before .before .before .pre .small) (c .before .before .before .before .pre .small))
+    (λ c. sym (length-take-le _ _ (mul-le-mul (c .before .before .before .before .before .pre .small) (c .before .before .before .before .before .pre .small))))
     (λ c κs.
-        let c3 = c .before .before .before in
-        (c3 .pre, (length-take-le _ _ (mul-le-mul (c3 .pre .small) (c3 .pre .small)), length-take-le _ _ (mul-le-mul (c3 .pre .small) (c3 .pre .small)))))
-    (λ c. c .before .before .exp-into .ensures))
+        let c5 = c .before .before .before .before .before in
+        (c5 .pre, (length-take-le _ _ (mul-le-mul (c5 .pre .small) (c5 .pre .small)), length-take-le _ _ (mul-le-mul (c5 .pre .small) (c5 .pre .small)))))
+    (λ c. c .before .before .exp-into3 .ensures))

@@ -4,7 +4,8 @@ use native.Mathlib.Omega.{arith}
 use mathlib.Core.Path.{_≡_}
 use Rattle.matrix.specs.Vector.{vec}
 use Rattle.matrix.specs.Matrix.{at}
-use Rattle.methods.proofs.Laws.{vec-none, vec-step, vec-end, row-small}
+use Rattle.matrix.proofs.Vectors.{vec-none, vec-step, vec-end}
+use Rattle.methods.proofs.Laws.{row-small}
 use Rattle.methods.proofs.last_column.Statement.{statement}
 use Rattle.methods.proofs.last_column.Tie as tie
 

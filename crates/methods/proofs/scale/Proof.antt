@@ -6,7 +6,7 @@ use Rattle.loops.specs.Loop.{_!_}
 use Rattle.float.specs.Arith.{_⊗_}
 use Rattle.matrix.specs.Vector.{vec}
 use Rattle.methods.specs.Vectors.{scale}
-use Rattle.methods.proofs.Laws.{vec-none, vec-step, vec-end}
+use Rattle.matrix.proofs.Vectors.{vec-none, vec-step, vec-end}
 use Rattle.methods.proofs.scale.Statement.{statement}
 use Rattle.methods.proofs.scale.Tie as tie
 
