@@ -1,5 +1,7 @@
+pub mod Vectors
 pub mod Rows
 pub mod Products
+pub mod Sizes
 pub mod Powers
 pub mod Series
 pub mod Row

@@ -17,42 +17,48 @@ use Rattle.loops.proofs.Stores.{stores-suc, stores-all, stores-join, stores-sto
 use Rattle.loops.proofs.Places.{place-row, place-column}
 use Rattle.float.specs.Arith.{_⊕_, _⊗_, zero+, one}
 use Rattle.matrix.specs.Matrix.{at, matMul, identity, squared}
-use Rattle.matrix.specs.Calls.{products}
+use Rattle.matrix.specs.Calls.{products, Started}
 use Rattle.matrix.proofs.Rows.{rows-step, stores-same}
 
 -- ---- one row of a product
-first-products : (l r : List Float) (n i row : ℕ) (o q : List Float) → row ≡ i * n
-    → q ≡ stores (λ j x. zero+ ⊕ l ! row ⊗ r ! (0 + j)) row n o → q ≡ stores (λ j x. products 1 l r n i j) (i * n) n o
+pub first-one : (l r : List Float) (n i row : ℕ) (o q : List Float) → row ≡ i * n → q ≡ stores (λ j x. zero+ ⊕ l ! row ⊗ r ! j) row n o → q ≡ stores (λ j x. products 1 l r n i j) (i * n) n o
 unfolding products iter
-first-products l r n i row o q u e = simp (add-zero, zero-mul) (simp u at e)
+first-one l r n i row o q u e = simp (add-zero, zero-mul, zero-add) (simp u at e)
+
+pub first-two : (l r : List Float) (n i row next : ℕ) (o q : List Float) → row ≡ i * n → next ≡ 1 * n
+    → q ≡ stores (λ j x. zero+ ⊕ l ! row ⊗ r ! j ⊕ l ! (row + 1) ⊗ r ! (next + j)) row n o → q ≡ stores (λ j x. products 2 l r n i j) (i * n) n o
+unfolding products iter
+first-two l r n i row next o q u v e = simp (add-zero, zero-mul, zero-add) (simp (u, v) at e)
 
 -- a row that is written over once more
 over : (f g : ℕ → Float) (b n : ℕ) (o q : List Float) → b + n ≤ length o → q ≡ stores (λ j x. f j) b n o → stores (λ j x. g j) b n q ≡ stores (λ j x. g j) b n o
 over f g b n o q h e = rw e (stores-stores (λ j x. f j) (λ j x. g j) b n o h)
 
-pub row-first : (l r : List Float) (n i row : ℕ) (o q : List Float) → i * n + n ≤ length o → row ≡ i * n
-    → q ≡ stores (λ j x. zero+ ⊕ l ! row ⊗ r ! (0 + j)) row n o → q ≡ stores (λ j x. products 1 l r n i j) (i * n) n q
-row-first l r n i row o q h u e =
-    let d : q ≡ stores (λ j x. products 1 l r n i j) (i * n) n o = first-products l r n i row o q u e in
-    d ∙ sym (over (products 1 l r n i) (products 1 l r n i) (i * n) n o q h d)
+pub row-first : (l r : List Float) (n i k : ℕ) (o q : List Float) → i * n + n ≤ length o → Started l r i n k o q → q ≡ stores (λ j x. products k l r n i j) (i * n) n q
+row-first l r n i k o q h d = d .row ∙ sym (over (products k l r n i) (products k l r n i) (i * n) n o q h (d .row))
 
-products-suc : (l r : List Float) (n i j k : ℕ) → products (k + 1) l r n i j ≡ products k l r n i j ⊕ at l n i k ⊗ at r n k j
+products-two : (l r : List Float) (n i j k : ℕ) → products (k + 2) l r n i j ≡ products k l r n i j ⊕ at l n i k ⊗ at r n k j ⊕ at l n i (k + 1) ⊗ at r n (k + 1) j
 unfolding products iter
-products-suc l r n i j k = rw add-one
+products-two l r n i j k = let s : k + 2 ≡ suc (suc k) = omega arith in rw (s, add-one)
 
-pub row-step : (l r : List Float) (n i k row from : ℕ) (o p q : List Float) → i * n + n ≤ length o → row ≡ i * n → from ≡ k * n
+pub row-two : (l r : List Float) (n i k row from next : ℕ) (o p q : List Float) → i * n + n ≤ length o → row ≡ i * n → from ≡ k * n → next ≡ (k + 1) * n
     → p ≡ stores (λ j x. products k l r n i j) (i * n) n o
-    → q ≡ stores (λ j x. x ⊕ l ! (row + k) ⊗ r ! (from + j)) row n p
-    → q ≡ stores (λ j x. products (k + 1) l r n i j) (i * n) n o
-row-step l r n i k row from o p q h u v e d =
-    let d' : q ≡ stores (λ j x. x ⊕ at l n i k ⊗ at r n k j) (i * n) n p = simp (u, v) at d in
-    simp products-suc (d' ∙ ap (λ z. stores (λ j x. x ⊕ at l n i k ⊗ at r n k j) (i * n) n z) e ∙ stores-stores _ _ (i * n) n o h)
+    → q ≡ stores (λ j x. x ⊕ l ! (row + k) ⊗ r ! (from + j) ⊕ l ! (row + (k + 1)) ⊗ r ! (next + j)) row n p
+    → q ≡ stores (λ j x. products (k + 2) l r n i j) (i * n) n o
+row-two l r n i k row from next o p q h u v w e d =
+    let d' : q ≡ stores (λ j x. x ⊕ at l n i k ⊗ at r n k j ⊕ at l n i (k + 1) ⊗ at r n (k + 1) j) (i * n) n p = simp (u, v, w) at d in
+    simp products-two (d' ∙ ap (λ z. stores (λ j x. x ⊕ at l n i k ⊗ at r n k j ⊕ at l n i (k + 1) ⊗ at r n (k + 1) j) (i * n) n z) e ∙ stores-stores _ _ (i * n) n o h)
 
-pub row-end : (l r : List Float) (n i row k : ℕ) (o q p : List Float) → i * n + n ≤ length o → row ≡ i * n → q ≡ stores (λ j x. zero+ ⊕ l ! row ⊗ r ! (0 + j)) row n o → k ≡ n
-    → p ≡ stores (λ j x. products k l r n i j) (i * n) n q → p ≡ stores (λ j x. products n l r n i j) (i * n) n o
-row-end l r n i row k o q p h u d g e =
-    subst (λ m. p ≡ stores (λ j x. products m l r n i j) (i * n) n q) g e
-    ∙ over (products 1 l r n i) (products n l r n i) (i * n) n o q h (first-products l r n i row o q u d)
+-- two products more
+pub pair-even : (k n : ℕ) → k % 2 ≡ n % 2 → (k + 2) % 2 ≡ n % 2
+pair-even k n h = omega arith
+
+pub pair-room : (k n : ℕ) → k % 2 ≡ n % 2 → k < n → k + 2 ≤ n
+pair-room k n h l = omega arith
+
+pub row-end : (l r : List Float) (n i k m : ℕ) (o q p : List Float) → i * n + n ≤ length o → Started l r i n k o q → m ≡ n
+    → p ≡ stores (λ j x. products m l r n i j) (i * n) n q → p ≡ stores (λ j x. products n l r n i j) (i * n) n o
+row-end l r n i k m o q p h d g e = subst (λ m. p ≡ stores (λ j x. products m l r n i j) (i * n) n q) g e ∙ over (products k l r n i) (products n l r n i) (i * n) n o q h (d .row)
 
 -- ---- all rows
 abbrev pub entry : List Float → List Float → ℕ → ℕ → Float → Float

@@ -1,16 +1,23 @@
 -- What the code's steps hand on, and what matrix_exp promises. Definitions only.
-use Prim.Native.Nat.{ℕ, _≤_}
+use Prim.Native.Nat.{ℕ, _*_, _%_, _≤_}
 use mathlib.Core.Path.{_≡_}
 use mathlib.Core.Bool.{Bool, cond}
 use mathlib.Core.List.{List}
 use lib.Ieee.{Float}
-use Rattle.loops.specs.Loop.{iter}
+use Rattle.loops.specs.Loop.{iter, stores}
 use Rattle.float.specs.Arith.{_⊕_, _⊗_, zero+}
 use Rattle.matrix.specs.Matrix.{at, divAll, addAll, norm, admitted, squarings, power, nextTerm, small, taylor, exponential}
 
 -- the first k products of row i and column j, summed from +0.0
 unfoldable pub products : ℕ → List Float → List Float → ℕ → ℕ → ℕ → Float
 products k left right n i j = iter k (λ m x. x ⊕ at left n i m ⊗ at right n m j) zero+
+
+-- the first k products of each entry of row i, one or two of them, as n is odd or even
+pub record Started (left right : List Float) (i n k : ℕ) (before after : List Float) : Type 0 where
+  pub some : 1 ≤ k
+  pub room : k ≤ n
+  pub even : k % 2 ≡ n % 2
+  pub row : after ≡ stores (λ j x. products k left right n i j) (i * n) n before
 
 -- the norm of m, and whether m is admitted
 pub record Normed (m : List Float) (n : ℕ) (ok : Bool) (value : Float) : Type 0 where

@@ -2,14 +2,14 @@
 // A matrix of size n is a slice of n * n entries, row by row.
 ghost use mathlib.Core.Path.{_≡_};
 ghost use Prim.Native.Nat.{ℕ, _+_, _*_, _≤_, _<_};
-ghost use mathlib.Core.Bool.{true};
-ghost use lib.Ieee.{le};
+ghost use mathlib.Core.Bool.{true, false};
+ghost use lib.Ieee.{le, isNan};
 ghost use lib.ListN.{length};
 ghost use Rattle.loops.specs.Loop.{stores, _!_};
-ghost use Rattle.float.specs.Arith.{_⊕_, _⊗_, zero+, limit, sumOf};
+ghost use Rattle.float.specs.Arith.{_⊕_, _⊗_, zero+, limit, abs, larger, sumOf};
 ghost use Rattle.matrix.specs.Matrix.{at, identity, matMul, divAll, rowSum, norm, admitted, squarings, power, scaled, nextTerm, taylor, squared};
 ghost use Rattle.matrix.specs.Vector.{matVec};
-ghost use Rattle.matrix.specs.Calls.{products, Normed, Scaled, Added, Turned, Summed, Filled};
+ghost use Rattle.matrix.specs.Calls.{products, Started, Normed, Scaled, Added, Turned, Summed, Filled};
 
 // Where row i of a matrix of size n begins.
 fn row_start(i: usize, n: usize) -> usize
@@ -42,24 +42,70 @@ pub fn identity(out: &mut [f64], n: usize)
     }
 }
 
-// The first products of a row: 0.0 + value * right[from + j] at out[at + j], for each j below n.
-fn set_scaled(out: &mut [f64], at: usize, value: f64, right: &[f64], from: usize, n: usize)
-    requires { ⌜ (at + n ≤ length (now out)) × (from + n ≤ length (now right)) ⌝ }
-    ensures { λ _. ⌜ now (out .exit) ≡ stores (λ j x. zero+ ⊕ value ⊗ now (right .entry) ! (from + j)) at n (now (out .entry)) ⌝ }
+// The first product of each entry of a row: 0.0 + value * right[j] at out[at + j].
+fn set_one(out: &mut [f64], at: usize, value: f64, right: &[f64], n: usize)
+    requires { ⌜ (at + n ≤ length (now out)) × (n ≤ length (now right)) ⌝ }
+    ensures { λ _. ⌜ now (out .exit) ≡ stores (λ j x. zero+ ⊕ value ⊗ now (right .entry) ! j) at n (now (out .entry)) ⌝ }
 {
     for j in 0..n {
-        out[at + j] = 0.0 + value * right[from + j];
+        out[at + j] = 0.0 + value * right[j];
     }
 }
 
-// The next products of a row, added to what stands there.
-fn add_scaled(out: &mut [f64], at: usize, value: f64, right: &[f64], from: usize, n: usize)
-    requires { ⌜ (at + n ≤ length (now out)) × (from + n ≤ length (now right)) ⌝ }
-    ensures { λ _. ⌜ now (out .exit) ≡ stores (λ j x. x ⊕ value ⊗ now (right .entry) ! (from + j)) at n (now (out .entry)) ⌝ }
+// The first two products of each entry, added one after the other.
+fn set_two(
+    out: &mut [f64],
+    at: usize,
+    value: f64,
+    right: &[f64],
+    second: f64,
+    next: usize,
+    n: usize,
+)
+    requires { ⌜ (at + n ≤ length (now out)) × (n ≤ length (now right)) × (next + n ≤ length (now right)) ⌝ }
+    ensures { λ _. ⌜ now (out .exit) ≡ stores (λ j x. zero+ ⊕ value ⊗ now (right .entry) ! j ⊕ second ⊗ now (right .entry) ! (next + j)) at n (now (out .entry)) ⌝ }
 {
     for j in 0..n {
-        out[at + j] = out[at + j] + value * right[from + j];
+        out[at + j] = 0.0 + value * right[j] + second * right[next + j];
     }
+}
+
+// The next two products of a row, added one after the other.
+fn add_two(
+    out: &mut [f64],
+    at: usize,
+    value: f64,
+    right: &[f64],
+    from: usize,
+    second: f64,
+    next: usize,
+    n: usize,
+)
+    requires { ⌜ (at + n ≤ length (now out)) × (from + n ≤ length (now right)) × (next + n ≤ length (now right)) ⌝ }
+    ensures { λ _. ⌜ now (out .exit) ≡ stores (λ j x. x ⊕ value ⊗ now (right .entry) ! (from + j) ⊕ second ⊗ now (right .entry) ! (next + j)) at n (now (out .entry)) ⌝ }
+{
+    for j in 0..n {
+        out[at + j] = out[at + j] + value * right[from + j] + second * right[next + j];
+    }
+}
+
+// The first product of each entry of row i, or the first two, so that the rest comes in pairs; how
+// many they are.
+fn first_products(left: &[f64], right: &[f64], out: &mut [f64], i: usize, n: usize) -> usize
+    requires { ⌜ (i < n) × (n ≤ 20) ⌝ }
+    requires { ⌜ (length (now left) ≡ n * n) × (length (now right) ≡ n * n) × (length (now out) ≡ n * n) ⌝ }
+    ensures { λ r. ⌜ Started (now (left .entry)) (now (right .entry)) i n r (now (out .entry)) (now (out .exit)) ⌝ }
+{
+    let row = row_start(i, n);
+    let value = left[row];
+    if n % 2 == 1 {
+        set_one(out, row, value, right, n);
+        return 1;
+    }
+    let second = left[row + 1];
+    let next = row_start(1, n);
+    set_two(out, row, value, right, second, next, n);
+    2
 }
 
 // Row i of left * right.
@@ -69,12 +115,15 @@ fn product_row(left: &[f64], right: &[f64], out: &mut [f64], i: usize, n: usize)
     ensures { λ _. ⌜ now (out .exit) ≡ stores (λ j x. products n (now (left .entry)) (now (right .entry)) n i j) (i * n) n (now (out .entry)) ⌝ }
 {
     let row = row_start(i, n);
-    let first = left[row];
-    set_scaled(out, row, first, right, 0, n);
-    for k in 1..n {
+    let mut k = first_products(left, right, out, i, n);
+    while k < n {
+        let after = k + 1;
         let value = left[row + k];
+        let second = left[row + after];
         let from = row_start(k, n);
-        add_scaled(out, row, value, right, from, n);
+        let next = row_start(after, n);
+        add_two(out, row, value, right, from, second, next, n);
+        k += 2;
     }
 }
 
@@ -117,15 +166,23 @@ pub fn mat_vec(m: &[f64], v: [f64; 16], n: usize) -> [f64; 16]
 
 // ---- step 1: the norm
 
+// The absolute value, as selects and not as branches: signs can't be foretold.
+fn magnitude(x: f64) -> f64
+    ensures { λ r. ⌜ r ≡ abs x ⌝ }
+{
+    let size = if x < 0.0 { -x } else { x };
+    if size == 0.0 { 0.0 } else { size }
+}
+
 // The absolute values of row i, summed from the first.
 fn row_sum(m: &[f64], i: usize, n: usize) -> f64
     requires { ⌜ (i < n) × (n ≤ 20) × (length (now m) ≡ n * n) ⌝ }
     ensures { λ r. ⌜ r ≡ rowSum (now (m .entry)) n i ⌝ }
 {
     let row = row_start(i, n);
-    let mut sum = float::abs(m[row]);
-    for j in 1..n {
-        sum = sum + float::abs(m[row + j]);
+    let mut sum = magnitude(m[row]);
+    for column in 1..n {
+        sum = sum + magnitude(m[row + column]);
     }
     sum
 }
@@ -185,6 +242,14 @@ fn div_into(m: &[f64], out: &mut [f64], d: f64)
     }
 }
 
+// The larger of a number and x; a NaN is passed over.
+fn raise(big: f64, x: f64) -> f64
+    requires { ⌜ isNan big ≡ false ⌝ }
+    ensures { λ r. ⌜ r ≡ larger big x ⌝ }
+{
+    if big < x { x } else { big }
+}
+
 // Divides the term and adds it to the sum; whether it is small enough to be the last.
 fn add_term(term: &mut [f64], sum: &mut [f64], d: f64) -> bool
     requires { ⌜ length (now sum) ≡ length (now term) ⌝ }
@@ -197,8 +262,8 @@ fn add_term(term: &mut [f64], sum: &mut [f64], d: f64) -> bool
         let s = sum[p] + t;
         term[p] = t;
         sum[p] = s;
-        big = float::larger(big, float::abs(t));
-        top = float::larger(top, float::abs(s));
+        big = raise(big, magnitude(t));
+        top = raise(top, magnitude(s));
     }
     big <= 2.220446049250313e-16 * top
 }

@@ -1,4 +1,4 @@
--- `matrix::row_sum` meets its contract: the sum has the first j magnitudes. Assumes nothing.
+-- `matrix::row_sum` meets its contract: the sum has the first magnitudes. Assumes nothing.
 use Prim.Native.Nat.{_-_, _≤_}
 use mathlib.Core.Path.{_≡_}
 use native.Mathlib.Omega.{arith}
@@ -10,46 +10,46 @@ use Rattle.matrix.proofs.row_sum.Statement.{statement}
 use Rattle.matrix.proofs.row_sum.Tie as tie
 
 abbrev Inv-loop : tie.InvT-loop
-Inv-loop m i n row sum₀ j₀ sum j = (1 ≤ j) × (j ≤ n) × (sum ≡ sumOf j (λ k. abs (at m n i k)))
+Inv-loop m i n row sum₀ column₀ sum column = (1 ≤ column) × (column ≤ n) × (sum ≡ sumOf column (λ k. abs (at m n i k)))
 
 abbrev μ-loop : tie.MeasureT-loop
-μ-loop m i n row sum₀ j₀ sum j = n - j
+μ-loop m i n row sum₀ column₀ sum column = n - column
 
 row-start-requires : tie.Need-row-start-requires Inv-loop μ-loop
 row-start-requires c κs = omega arith
 
-mul-abs : tie.Need-mul-abs Inv-loop μ-loop
-mul-abs c = omega arith
+mul-magnitude : tie.Need-mul-magnitude Inv-loop μ-loop
+mul-magnitude c = omega arith
 
-shared-slice-read-abs : tie.Need-shared-slice-read-abs Inv-loop μ-loop
-shared-slice-read-abs c = omega arith
+shared-slice-read-magnitude : tie.Need-shared-slice-read-magnitude Inv-loop μ-loop
+shared-slice-read-magnitude c = omega arith
 
-abs-requires : tie.Need-abs-requires Inv-loop μ-loop
-abs-requires c κs = omega arith
+magnitude-requires : tie.Need-magnitude-requires Inv-loop μ-loop
+magnitude-requires c κs = omega arith
 
 loop-holds : tie.Need-loop-holds Inv-loop μ-loop
-loop-holds c = (omega arith, omega arith, sum-first _ _ (rw (add-zero, ← c .before .before .row-start .ensures .0) (c .abs .ensures)))
+loop-holds c = (omega arith, omega arith, sum-first _ _ (rw (add-zero, ← c .before .before .row-start .ensures .0) (c .magnitude .ensures)))
 
-add-abs : tie.Need-add-abs Inv-loop μ-loop
-add-abs c = omega arith
+add-magnitude : tie.Need-add-magnitude Inv-loop μ-loop
+add-magnitude c = omega arith
 
-mul-abs-2 : tie.Need-mul-abs-2 Inv-loop μ-loop
-mul-abs-2 c = omega arith
+mul-magnitude-2 : tie.Need-mul-magnitude-2 Inv-loop μ-loop
+mul-magnitude-2 c = omega arith
 
-shared-slice-read-abs-2 : tie.Need-shared-slice-read-abs-2 Inv-loop μ-loop
-shared-slice-read-abs-2 c = omega arith
+shared-slice-read-magnitude-2 : tie.Need-shared-slice-read-magnitude-2 Inv-loop μ-loop
+shared-slice-read-magnitude-2 c = omega arith
 
-abs-requires-2 : tie.Need-abs-requires-2 Inv-loop μ-loop
-abs-requires-2 c κs = omega arith
+magnitude-requires-2 : tie.Need-magnitude-requires-2 Inv-loop μ-loop
+magnitude-requires-2 c κs = omega arith
 
-add-j : tie.Need-add-j Inv-loop μ-loop
-add-j c = omega arith
+add-column : tie.Need-add-column Inv-loop μ-loop
+add-column c = omega arith
 
 loop-less : tie.Need-loop-less Inv-loop μ-loop
 loop-less c = omega arith
 
 loop-again : tie.Need-loop-again Inv-loop μ-loop
-loop-again c = (omega arith, omega arith, sum-step _ _ _ _ (c .before .before .before .loop .inv .2) (rw (← c .before .before .before .before .before .before .row-start .ensures .0) (c .abs2 .ensures)) (omega arith))
+loop-again c = (omega arith, omega arith, sum-step _ _ _ _ (c .before .before .before .loop .inv .2) (rw (← c .before .before .before .before .before .before .row-start .ensures .0) (c .magnitude2 .ensures)) (omega arith))
 
 returns : tie.Need-returns Inv-loop μ-loop
 unfolding rowSum
@@ -62,15 +62,15 @@ row-sum-spec =
     Inv-loop
     μ-loop
     row-start-requires
-    mul-abs
-    shared-slice-read-abs
-    abs-requires
+    mul-magnitude
+    shared-slice-read-magnitude
+    magnitude-requires
     loop-holds
-    add-abs
-    mul-abs-2
-    shared-slice-read-abs-2
-    abs-requires-2
-    add-j
+    add-magnitude
+    mul-magnitude-2
+    shared-slice-read-magnitude-2
+    magnitude-requires-2
+    add-column
     loop-less
     loop-again
     returns)

@@ -1,5 +1,5 @@
--- `matrix::set_scaled` meets its contract: after j turns the first j entries of the row are done. Assumes nothing.
-use Prim.Native.Nat.{_+_, _-_, _≤_}
+-- `matrix::set_one` meets its contract: after j turns the first j entries of the row are done. Assumes nothing.
+use Prim.Native.Nat.{_-_, _≤_}
 use mathlib.Core.Path.{_≡_}
 use native.Mathlib.Omega.{arith}
 use lib.ListN.{length, length-set}
@@ -7,20 +7,17 @@ use Rattle.loops.specs.Loop.{stores, _!_}
 use Rattle.loops.proofs.Loops.{stores-none, stores-step, stores-end}
 use Rattle.float.specs.Arith.{_⊕_, _⊗_, zero+}
 use Rattle.matrix.specs.Matrix.{at}
-use Rattle.matrix.proofs.set_scaled.Statement.{statement}
-use Rattle.matrix.proofs.set_scaled.Tie as tie
+use Rattle.matrix.proofs.set_one.Statement.{statement}
+use Rattle.matrix.proofs.set_one.Tie as tie
 
 abbrev Inv-loop : tie.InvT-loop
-Inv-loop out₀ at value right from n j₀ out j = (j ≤ n) × (length out ≡ length out₀) × (out ≡ stores (λ q x. zero+ ⊕ value ⊗ right ! (from + q)) at j out₀)
+Inv-loop out₀ at value right n j₀ out j = (j ≤ n) × (length out ≡ length out₀) × (out ≡ stores (λ q x. zero+ ⊕ value ⊗ right ! q) at j out₀)
 
 abbrev μ-loop : tie.MeasureT-loop
-μ-loop out₀ at value right from n j₀ out j = n - j
+μ-loop out₀ at value right n j₀ out j = n - j
 
 loop-holds : tie.Need-loop-holds Inv-loop μ-loop
 loop-holds c = (omega arith, omega arith, stores-none _ _ _)
-
-add-out : tie.Need-add-out Inv-loop μ-loop
-add-out c = omega arith
 
 mul-out : tie.Need-mul-out Inv-loop μ-loop
 mul-out c = omega arith
@@ -28,8 +25,8 @@ mul-out c = omega arith
 shared-slice-read-out : tie.Need-shared-slice-read-out Inv-loop μ-loop
 shared-slice-read-out c = omega arith
 
-add-out-2 : tie.Need-add-out-2 Inv-loop μ-loop
-add-out-2 c = omega arith
+add-out : tie.Need-add-out Inv-loop μ-loop
+add-out c = omega arith
 
 mul-out-2 : tie.Need-mul-out-2 Inv-loop μ-loop
 mul-out-2 c = omega arith
@@ -52,17 +49,16 @@ same-length c = omega arith
 returns : tie.Need-returns Inv-loop μ-loop
 returns c = stores-end _ _ _ _ _ _ (c .before .loop .inv .2) (omega arith)
 
-pub set-scaled-spec : {M : Type 1} → statement M
-set-scaled-spec =
+pub set-one-spec : {M : Type 1} → statement M
+set-one-spec =
     tie.close
     (tie.spec
     Inv-loop
     μ-loop
     loop-holds
-    add-out
     mul-out
     shared-slice-read-out
-    add-out-2
+    add-out
     mul-out-2
     slice-write-out
     add-j

@@ -1,0 +1,97 @@
+-- `matrix::add_two` meets its contract: after j turns the first j entries of the row are done. Assumes nothing.
+use Prim.Native.Nat.{_+_, _-_, _≤_}
+use mathlib.Core.Path.{_≡_}
+use native.Mathlib.Omega.{arith}
+use lib.ListN.{length, length-set}
+use Rattle.loops.specs.Loop.{stores, _!_}
+use Rattle.loops.proofs.Loops.{stores-none, stores-step, stores-end}
+use Rattle.float.specs.Arith.{_⊕_, _⊗_}
+use Rattle.matrix.specs.Matrix.{at}
+use Rattle.matrix.proofs.Sizes.{second}
+use Rattle.matrix.proofs.add_two.Statement.{statement}
+use Rattle.matrix.proofs.add_two.Tie as tie
+
+abbrev Inv-loop : tie.InvT-loop
+Inv-loop out₀ at value right from second next n j₀ out j = (j ≤ n) × (length out ≡ length out₀) × (out ≡ stores (λ q x. x ⊕ value ⊗ right ! (from + q) ⊕ second ⊗ right ! (next + q)) at j out₀)
+
+abbrev μ-loop : tie.MeasureT-loop
+μ-loop out₀ at value right from second next n j₀ out j = n - j
+
+loop-holds : tie.Need-loop-holds Inv-loop μ-loop
+loop-holds c = (omega arith, omega arith, stores-none _ _ _)
+
+add-out : tie.Need-add-out Inv-loop μ-loop
+add-out c = omega arith
+
+mul-out : tie.Need-mul-out Inv-loop μ-loop
+mul-out c = omega arith
+
+slice-read-out : tie.Need-slice-read-out Inv-loop μ-loop
+slice-read-out c = omega arith
+
+add-out-2 : tie.Need-add-out-2 Inv-loop μ-loop
+add-out-2 c = omega arith
+
+mul-out-2 : tie.Need-mul-out-2 Inv-loop μ-loop
+mul-out-2 c = omega arith
+
+shared-slice-read-out : tie.Need-shared-slice-read-out Inv-loop μ-loop
+shared-slice-read-out c = omega arith
+
+add-out-3 : tie.Need-add-out-3 Inv-loop μ-loop
+add-out-3 c = omega arith
+
+mul-out-3 : tie.Need-mul-out-3 Inv-loop μ-loop
+mul-out-3 c = omega arith
+
+shared-slice-read-out-2 : tie.Need-shared-slice-read-out-2 Inv-loop μ-loop
+shared-slice-read-out-2 c = omega arith
+
+add-out-4 : tie.Need-add-out-4 Inv-loop μ-loop
+add-out-4 c = omega arith
+
+mul-out-4 : tie.Need-mul-out-4 Inv-loop μ-loop
+mul-out-4 c = omega arith
+
+slice-write-out : tie.Need-slice-write-out Inv-loop μ-loop
+slice-write-out c = omega arith
+
+add-j : tie.Need-add-j Inv-loop μ-loop
+add-j c = omega arith
+
+loop-less : tie.Need-loop-less Inv-loop μ-loop
+loop-less c = omega arith
+
+loop-again : tie.Need-loop-again Inv-loop μ-loop
+loop-again c = (omega arith, simp length-set (omega arith), stores-step _ _ _ _ _ (c .before .before .before .before .loop .inv .2))
+
+same-length : tie.Need-same-length Inv-loop μ-loop
+same-length c = omega arith
+
+returns : tie.Need-returns Inv-loop μ-loop
+returns c = stores-end _ _ _ _ _ _ (c .before .loop .inv .2) (omega arith)
+
+pub add-two-spec : {M : Type 1} → statement M
+add-two-spec =
+    tie.close
+    (tie.spec
+    Inv-loop
+    μ-loop
+    loop-holds
+    add-out
+    mul-out
+    slice-read-out
+    add-out-2
+    mul-out-2
+    shared-slice-read-out
+    add-out-3
+    mul-out-3
+    shared-slice-read-out-2
+    add-out-4
+    mul-out-4
+    slice-write-out
+    add-j
+    loop-less
+    loop-again
+    same-length
+    returns)
