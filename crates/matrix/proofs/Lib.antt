@@ -10,4 +10,3 @@ pub mod Stop
 pub mod Scaled
 pub mod Claims
 pub mod Whole
-pub mod Vectors
