@@ -7,9 +7,6 @@ ghost use Rattle.loops.specs.Loop.{mat};
 ghost use Rattle.methods.specs.Step.{refused, performStep};
 ghost use Rattle.methods.specs.Step.{progress as reached};
 ghost use Rattle.engine.specs.Engine.{jacobianEntry};
-ghost use Rattle.methods.specs.Vectors;
-ghost use Rattle.methods.specs.Phi;
-ghost use Rattle.methods.specs.Step;
 ghost use Rattle.session.specs.Session.{usedHistory, usedJacobian, stepClear, wanted, runPlaces, attemptPlaces, good1, historyOk, good2, inPhase, positive, stepOk, good5, good3, fault, Sound, isHeld, pointOf, stepped, question, differencing, progress};
 ghost use Rattle.session.specs.Calls.{outcome, opened, nothing, begun, answered, moved, readyOf, answerOf, shown, arrived, settled, faultVector, attemptOf, faultBegin, openCall, beginCall, supplyCall, acceptCall, dropCall, firstStepCall};
 ghost use Rattle.session.specs.Bare.{bare, faultExponential, exponentialCall, faultPhi, phiCall, faultNorm, normCall};
@@ -88,8 +85,8 @@ fn wanted(scheme: u8, n: usize, attempt: Attempt) -> usize
 {
     match attempt {
         Attempt::None => 0,
-        Attempt::Supplied => questions(scheme),
-        Attempt::Differenced => n + questions(scheme),
+        Attempt::Supplied => methods::questions(scheme),
+        Attempt::Differenced => n + methods::questions(scheme),
     }
 }
 
@@ -371,7 +368,7 @@ fn stepped_from(s: Session, answers: &[f64], a: &mut [f64]) -> methods::StepResu
     let state = s.state;
     let f0 = s.derivative;
     engine::jacobian_into(state, f0, answers, n, &mut *a);
-    perform_step(s.scheme, point_of(s), &*a, answers, n, s.count - n)
+    methods::perform_step(s.scheme, point_of(s), &*a, answers, n, s.count - n)
 }
 
 fn differencing(s: Session, answers: &[f64]) -> methods::StepResult
@@ -416,7 +413,7 @@ fn supplied(s: Session) -> methods::StepResult
     let size = n * n;
     let jacobian = s.jacobian;
     let answers = s.answers;
-    perform_step(s.scheme, point_of(s), &jacobian[..size], &answers, 0, s.count)
+    methods::perform_step(s.scheme, point_of(s), &jacobian[..size], &answers, 0, s.count)
 }
 
 fn run_pass(s: Session) -> methods::StepResult
@@ -850,7 +847,7 @@ pub fn phi_action(n: usize, order: usize, scale_a: f64, a: &[f64], input: &[f64]
 {
     let k = fault_phi(n, order, scale_a, a, input, out.len());
     if k == 0 {
-        let action = phi_of(a, scale_a, order, places::vector(input, n), n);
+        let action = methods::phi_action(a, scale_a, order, places::vector(input, n), n);
         if action.ok {
             let v = action.v;
             places::copy_out(v, &mut *out);
@@ -899,25 +896,4 @@ pub fn error_norm(
         return Answer::Norm(engine::scaled_error_norm(n, relative, absolute, state, candidate, error));
     }
     Answer::Refused(k)
-}
-
-// TEMP
-fn questions(scheme: u8) -> usize
-    ensures { λ r. ⌜ (r ≡ Rattle.methods.specs.Step.questions scheme) × (r ≤ 4) ⌝ }
-{
-    0
-}
-fn perform_step(scheme: u8, p: methods::Point, a: &[f64], answers: &[f64], first: usize, count: usize) -> methods::StepResult
-    requires { ⌜ Rattle.methods.specs.Vectors.Sized (p .n) (now a) ⌝ }
-    requires { ⌜ (length (now answers) ≡ 320) × (first + count ≤ 20) ⌝ }
-    ensures { λ r. ⌜ reached r ≡ performStep scheme p (now (a .entry)) count first (now (answers .entry)) ⌝ }
-{
-    methods::StepResult { ok: false, kind: methods::Kind::Done, state: [0.0; 16], error: [0.0; 16], nonlinear: [0.0; 16] }
-}
-fn phi_of(a: &[f64], scale_a: f64, order: usize, input: [f64; 16], n: usize) -> methods::Action
-    requires { ⌜ Rattle.methods.specs.Vectors.Sized n (now a) ⌝ }
-    requires { ⌜ (1 ≤ order) × (order ≤ 4) ⌝ }
-    ensures { λ r. ⌜ r ≡ Rattle.methods.specs.Phi.phiAction n (now (a .entry)) «scale_a» order input ⌝ }
-{
-    methods::Action { ok: false, v: [0.0; 16] }
 }

@@ -4,11 +4,9 @@ use Rattle.session.specs.Calls.{begun}
 use Rattle.session.proofs.begun.Statement.{statement}
 use Rattle.session.proofs.begun.Tie as tie
 
-returns : tie.Need-returns
-unfolding begun
-returns c = refl
-
 pub begun-spec : {M : Type 1} → statement M
+unfolding begun
 begun-spec =
     tie.close
-    (tie.spec returns)
+    (tie.spec
+    (λ c. refl))

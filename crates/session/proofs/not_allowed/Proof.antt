@@ -4,11 +4,9 @@ use Rattle.methods.specs.Step.{progress as reached}
 use Rattle.session.proofs.not_allowed.Statement.{statement}
 use Rattle.session.proofs.not_allowed.Tie as tie
 
-returns : tie.Need-returns
-unfolding reached
-returns c = refl
-
 pub not-allowed-spec : {M : Type 1} → statement M
+unfolding reached
 not-allowed-spec =
     tie.close
-    (tie.spec returns)
+    (tie.spec
+    (λ c. refl))

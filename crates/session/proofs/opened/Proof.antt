@@ -4,11 +4,9 @@ use Rattle.session.specs.Calls.{opened}
 use Rattle.session.proofs.opened.Statement.{statement}
 use Rattle.session.proofs.opened.Tie as tie
 
-returns : tie.Need-returns
-unfolding opened
-returns c = refl
-
 pub opened-spec : {M : Type 1} → statement M
+unfolding opened
 opened-spec =
     tie.close
-    (tie.spec returns)
+    (tie.spec
+    (λ c. refl))

@@ -4,15 +4,10 @@ use Rattle.session.specs.Session.{pointOf}
 use Rattle.session.proofs.point_of.Statement.{statement}
 use Rattle.session.proofs.point_of.Tie as tie
 
-is-held-requires : tie.Need-is-held-requires
-unfolding pointOf
-is-held-requires c κs = search needs
-
-returns : tie.Need-returns
-unfolding pointOf
-returns c = rw (c .is-held .ensures)
-
 pub point-of-spec : {M : Type 1} → statement M
+unfolding pointOf
 point-of-spec =
     tie.close
-    (tie.spec is-held-requires returns)
+    (tie.spec
+    (λ c κs. search needs)
+    (λ c. rw (c .is-held .ensures)))

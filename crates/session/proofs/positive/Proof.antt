@@ -4,15 +4,10 @@ use Rattle.session.specs.Session.{positive}
 use Rattle.session.proofs.positive.Statement.{statement}
 use Rattle.session.proofs.positive.Tie as tie
 
-finite-requires : tie.Need-finite-requires
-unfolding positive
-finite-requires c κs = search needs
-
-returns : tie.Need-returns
-unfolding positive
-returns c = rw (c .finite .ensures)
-
 pub positive-spec : {M : Type 1} → statement M
+unfolding positive
 positive-spec =
     tie.close
-    (tie.spec finite-requires returns)
+    (tie.spec
+    (λ c κs. search needs)
+    (λ c. rw (c .finite .ensures)))

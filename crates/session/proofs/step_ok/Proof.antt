@@ -4,15 +4,10 @@ use Rattle.session.specs.Session.{stepOk}
 use Rattle.session.proofs.step_ok.Statement.{statement}
 use Rattle.session.proofs.step_ok.Tie as tie
 
-finite-requires : tie.Need-finite-requires
-unfolding stepOk
-finite-requires c κs = search needs
-
-returns : tie.Need-returns
-unfolding stepOk
-returns c = rw (c .finite .ensures)
-
 pub step-ok-spec : {M : Type 1} → statement M
+unfolding stepOk
 step-ok-spec =
     tie.close
-    (tie.spec finite-requires returns)
+    (tie.spec
+    (λ c κs. search needs)
+    (λ c. rw (c .finite .ensures)))

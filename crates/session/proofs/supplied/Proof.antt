@@ -16,35 +16,15 @@ use Rattle.session.proofs.supplied.Tie as tie
 inside : {n : ℕ} (x : List Float) → n ≤ 16 → length (map {A = Float} {B = Float} (λ v. v) x) ≡ 256 → n * n ≤ length x
 inside {n} x h e = omega (arith, area h, e, length-map {A = Float} {B = Float} x (λ v. v))
 
-mul-size : tie.Need-mul-size
-unfolding pointOf
-mul-size c = omega (arith, area (c .pre .0 .small))
-
-point-of-requires : tie.Need-point-of-requires
-unfolding pointOf
-point-of-requires c κs = search needs
-
-array-share-prefix-jacobian : tie.Need-array-share-prefix-jacobian
-unfolding pointOf
-array-share-prefix-jacobian c = inside (c .before .before .before .args .s .jacobian) (c .before .before .before .pre .0 .small) (c .before .before .before .good .0 .1 .1 .1 .1 .1 .1 .1 .1 .1 .1 .1 .1 .1 .0 .1 .0 .1)
-
-slice-aggregate-perform-step : tie.Need-slice-aggregate-perform-step
-unfolding pointOf
-slice-aggregate-perform-step c = sym (length-take-le _ _ (inside (c .before .before .before .before .args .s .jacobian) (c .before .before .before .before .pre .0 .small) (c .before .before .before .before .good .0 .1 .1 .1 .1 .1 .1 .1 .1 .1 .1 .1 .1 .1 .0 .1 .0 .1)))
-
-slice-aggregate-perform-step-2 : tie.Need-slice-aggregate-perform-step-2
-unfolding pointOf
-slice-aggregate-perform-step-2 c = search needs
-
-perform-step-requires : tie.Need-perform-step-requires
-unfolding pointOf
-perform-step-requires c κs = rw (c .before .before .point-of .ensures) (record { some = c .before .before .before .before .before .pre .0 .some; small = c .before .before .before .before .before .pre .0 .small; square = length-take-le _ _ (inside (c .before .before .before .before .before .args .s .jacobian) (c .before .before .before .before .before .pre .0 .small) (c .before .before .before .before .before .good .0 .1 .1 .1 .1 .1 .1 .1 .1 .1 .1 .1 .1 .1 .0 .1 .0 .1)) }, (search needs, omega (arith, c .before .before .before .before .before .pre .1)))
-
-returns : tie.Need-returns
-unfolding pointOf
-returns c = let e : c .before .before .before .before .before .before .args .s .count - 0 ≡ c .before .before .before .before .before .before .args .s .count = omega arith in rw (e, ← (c .before .before .before .point-of .ensures)) (c .perform-step .ensures)
-
 pub supplied-spec : {M : Type 1} → statement M
+unfolding pointOf
 supplied-spec =
     tie.close
-    (tie.spec mul-size point-of-requires array-share-prefix-jacobian slice-aggregate-perform-step slice-aggregate-perform-step-2 perform-step-requires returns)
+    (tie.spec
+    (λ c. omega (arith, area (c .pre .0 .small)))
+    (λ c κs. search needs)
+    (λ c. inside (c .before .before .before .args .s .jacobian) (c .before .before .before .pre .0 .small) (c .before .before .before .good .0 .1 .1 .1 .1 .1 .1 .1 .1 .1 .1 .1 .1 .1 .0 .1 .0 .1))
+    (λ c. sym (length-take-le _ _ (inside (c .before .before .before .before .args .s .jacobian) (c .before .before .before .before .pre .0 .small) (c .before .before .before .before .good .0 .1 .1 .1 .1 .1 .1 .1 .1 .1 .1 .1 .1 .1 .0 .1 .0 .1))))
+    (λ c. search needs)
+    (λ c κs. rw (c .before .before .point-of .ensures) (record { some = c .before .before .before .before .before .pre .0 .some; small = c .before .before .before .before .before .pre .0 .small; square = length-take-le _ _ (inside (c .before .before .before .before .before .args .s .jacobian) (c .before .before .before .before .before .pre .0 .small) (c .before .before .before .before .before .good .0 .1 .1 .1 .1 .1 .1 .1 .1 .1 .1 .1 .1 .1 .0 .1 .0 .1)) }, (search needs, omega arith)))
+    (λ c. let e : c .before .before .before .before .before .before .args .s .count - 0 ≡ c .before .before .before .before .before .before .args .s .count = omega arith in rw (e, ← (c .before .before .before .point-of .ensures)) (c .perform-step .ensures)))

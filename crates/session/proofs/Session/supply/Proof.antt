@@ -8,40 +8,17 @@ use Rattle.session.proofs.Laws.{fault-none, wants, wanted-small, vector
 use Rattle.session.proofs.Session.supply.Statement.{statement}
 use Rattle.session.proofs.Session.supply.Tie as tie
 
-fault-requires : tie.Need-fault-requires
-unfolding supplyCall except answered
-fault-requires c κs = search needs
-
-fault-vector-requires : tie.Need-fault-vector-requires
-unfolding supplyCall except answered
-fault-vector-requires c κs = search needs
-
-answered-requires : tie.Need-answered-requires
-unfolding supplyCall except answered
-answered-requires c κs = omega (arith, wants _ (sym (c .before .before .before .before .fault .ensures) ∙ c .before .before .before .if1 .taken), wanted-small (c .before .before .before .before .before .before .args .self .scheme) (c .before .before .before .before .before .before .args .self .n) (c .before .before .before .before .before .before .args .self .attempt) (fault-none Asking _ (sym (c .before .before .before .before .fault .ensures) ∙ c .before .before .before .if1 .taken) .0 .small))
-
-show-requires : tie.Need-show-requires
-unfolding supplyCall except answered
-show-requires c κs = (rw (c .before .answered .ensures) (answered-sound (c .before .before .before .before .before .before .before .before .args .self) (c .before .before .before .before .before .before .before .before .args .answer) (fault-none Asking _ (sym (c .before .before .before .before .before .before .fault .ensures) ∙ c .before .before .before .before .before .if1 .taken) .0) (wants _ (sym (c .before .before .before .before .before .before .fault .ensures) ∙ c .before .before .before .before .before .if1 .taken))),
-        rw (c .before .answered .ensures) (vector-length (c .before .before .before .before .before .before .before .before .args .self .n) (c .before .before .before .before .before .before .before .before .args .answer) _ (sym (c .before .before .before .fault-vector .ensures) ∙ c .before .before .if2 .taken)))
-
-same-length : tie.Need-same-length
-unfolding supplyCall except answered
-same-length c = search needs
-
-returns : tie.Need-returns
-unfolding supplyCall except answered
-returns c = rw (← (c .before .before .before .before .before .before .before .before .before .fault .ensures), c .before .before .before .before .before .before .before .before .if1 .taken, ← (c .before .before .before .before .before .before .fault-vector .ensures), c .before .before .before .before .before .if2 .taken, ← (c .before .before .before .before .answered .ensures)) (c .before .before .show .ensures)
-
-returns-2 : tie.Need-returns-2
-unfolding supplyCall except answered
-returns-2 c = rw (← (c .before .before .before .before .fault .ensures), c .before .before .before .if1 .taken, ← (c .before .fault-vector .ensures)) (except-refused _ _ _ _ (c .if2 .left))
-
-returns-3 : tie.Need-returns-3
-unfolding supplyCall except answered
-returns-3 c = rw (← (c .before .fault .ensures)) (except-refused _ _ _ _ (c .if1 .left))
-
 pub supply-spec : {M : Type 1} → statement M
+unfolding supplyCall except answered
 supply-spec =
     tie.close
-    (tie.spec fault-requires fault-vector-requires answered-requires show-requires same-length returns returns-2 returns-3)
+    (tie.spec
+    (λ c κs. search needs)
+    (λ c κs. search needs)
+    (λ c κs. omega (arith, wants _ (sym (c .before .before .before .before .fault .ensures) ∙ c .before .before .before .if1 .taken), wanted-small (c .before .before .before .before .before .before .args .self .scheme) (c .before .before .before .before .before .before .args .self .n) (c .before .before .before .before .before .before .args .self .attempt) (fault-none Asking _ (sym (c .before .before .before .before .fault .ensures) ∙ c .before .before .before .if1 .taken) .0 .small)))
+    (λ c κs. (rw (c .before .answered .ensures) (answered-sound (c .before .before .before .before .before .before .before .before .args .self) (c .before .before .before .before .before .before .before .before .args .answer) (fault-none Asking _ (sym (c .before .before .before .before .before .before .fault .ensures) ∙ c .before .before .before .before .before .if1 .taken) .0) (wants _ (sym (c .before .before .before .before .before .before .fault .ensures) ∙ c .before .before .before .before .before .if1 .taken))),
+        rw (c .before .answered .ensures) (vector-length (c .before .before .before .before .before .before .before .before .args .self .n) (c .before .before .before .before .before .before .before .before .args .answer) _ (sym (c .before .before .before .fault-vector .ensures) ∙ c .before .before .if2 .taken))))
+    (λ c. search needs)
+    (λ c. rw (← (c .before .before .before .before .before .before .before .before .before .fault .ensures), c .before .before .before .before .before .before .before .before .if1 .taken, ← (c .before .before .before .before .before .before .fault-vector .ensures), c .before .before .before .before .before .if2 .taken, ← (c .before .before .before .before .answered .ensures)) (c .before .before .show .ensures))
+    (λ c. rw (← (c .before .before .before .before .fault .ensures), c .before .before .before .if1 .taken, ← (c .before .fault-vector .ensures)) (except-refused _ _ _ _ (c .if2 .left)))
+    (λ c. rw (← (c .before .fault .ensures)) (except-refused _ _ _ _ (c .if1 .left))))

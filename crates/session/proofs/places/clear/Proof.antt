@@ -18,39 +18,18 @@ Inv-loop x used ok₀ i₀ i-end ok i = (i ≤ i-end) × (i-end ≡ length x) ×
 abbrev μ-loop : tie.MeasureT-loop
 μ-loop x used ok₀ i₀ i-end ok i = i-end - i
 
-loop-holds : tie.Need-loop-holds Inv-loop μ-loop
-unfolding clear
-loop-holds c = (omega arith, omega arith, every-none _)
-
-mul-plus-zero : tie.Need-mul-plus-zero Inv-loop μ-loop
-unfolding clear
-mul-plus-zero c = omega arith
-
-shared-slice-read-plus-zero : tie.Need-shared-slice-read-plus-zero Inv-loop μ-loop
-unfolding clear
-shared-slice-read-plus-zero c = omega arith
-
-plus-zero-requires : tie.Need-plus-zero-requires Inv-loop μ-loop
-unfolding clear
-plus-zero-requires c κs = tt
-
-add-i : tie.Need-add-i Inv-loop μ-loop
-unfolding clear
-add-i c = omega arith
-
-loop-less : tie.Need-loop-less Inv-loop μ-loop
-unfolding clear
-loop-less c = omega arith
-
-loop-again : tie.Need-loop-again Inv-loop μ-loop
-unfolding clear
-loop-again c = (omega arith, omega arith, every-step _ _ _ _ (c .before .before .before .loop .inv .2) (rw (c .plus-zero .ensures)))
-
-returns : tie.Need-returns Inv-loop μ-loop
-unfolding clear
-returns c = every-end _ _ _ _ (c .before .loop .inv .2) (omega arith)
-
 pub clear-spec : {M : Type 1} → statement M
+unfolding clear
 clear-spec =
     tie.close
-    (tie.spec Inv-loop μ-loop loop-holds mul-plus-zero shared-slice-read-plus-zero plus-zero-requires add-i loop-less loop-again returns)
+    (tie.spec
+    Inv-loop
+    μ-loop
+    (λ c. (omega arith, omega arith, every-none _))
+    (λ c. omega arith)
+    (λ c. omega arith)
+    (λ c κs. tt)
+    (λ c. omega arith)
+    (λ c. omega arith)
+    (λ c. (omega arith, omega arith, every-step _ _ _ _ (c .before .before .before .loop .inv .2) (rw (c .plus-zero .ensures))))
+    (λ c. every-end _ _ _ _ (c .before .loop .inv .2) (omega arith)))
