@@ -1,5 +1,6 @@
 // The calls over a pipe: reads a script of calls from standard input and writes a reply to each to standard output (docs/CONSOLE.md).
 // It holds one session, and starts with the one that a refused open gives.
+ghost use mathlib.Core.Path.{_≡_};
 ghost use Prim.Native.Nat.{_+_, _*_, _≤_};
 ghost use lib.ListN.{length};
 
