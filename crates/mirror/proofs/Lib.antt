@@ -1,1 +1,3 @@
 pub mod Floats
+pub mod Vectors
+pub mod Matrices
