@@ -1,3 +1,4 @@
 pub mod Floats
 pub mod Vectors
 pub mod Matrices
+pub mod Passes
