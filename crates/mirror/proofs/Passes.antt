@@ -199,3 +199,42 @@ module _ {n : ℕ} {σ : ℕ → Bool} {a a' u u' f f' : List Float} (t h : Floa
         bind-m (search parts depth 12) λ u5 u5' U5.
         bind-m (search parts depth 12) λ f5 f5' F5.
         search parts depth 60
+
+-- ---- by number
+data Each (n : ℕ) (σ : ℕ → Bool) : List Pass → List Pass → Type 0 where
+  none-m : Each n σ [] []
+  more-m : {p p' : Pass} {ps ps' : List Pass} → Passes n σ p p' → Each n σ ps ps' → Each n σ (p ∷ ps) (p' ∷ ps')
+
+choose-m : {n : ℕ} {σ : ℕ → Bool} {ps ps' : List Pass} {d d' : Pass} (k : ℕ) → Each n σ ps ps' → Passes n σ d d' → Passes n σ (getD ps k d) (getD ps' k d')
+choose-m k none-m D = D
+choose-m zero (more-m P R) D = P
+choose-m (suc k) (more-m P R) D = choose-m k R D
+
+-- what the schemes start from; a history where one is held
+pub data Points (n : ℕ) (σ : ℕ → Bool) : Point → Point → Type 0 where
+  points : (t h : Float) (held : Bool) {u u' f f' w w' : List Float} → Vecs n σ u u' → Vecs n σ f f' → (held ≡ true → Vecs n σ w w')
+      → Points n σ
+      (record { n = n; time = t; step = h; state = u; f0 = f; held = held; previous = w })
+      (record { n = n; time = t; step = h; state = u'; f0 = f'; held = held; previous = w' })
+
+pub pass-m : {n : ℕ} {σ : ℕ → Bool} {p p' : Point} {a a' v v' g g' : List Float} (k : ℕ) → Points n σ p p' → Mats n σ a a' → Vecs n σ v v' → Vecs n σ g g' → Passes n σ (pass k p a v g) (pass k p' a' v' g')
+unfolding pass
+pass-m k (points t h held U F W) A B G =
+    choose-m k
+    (more-m (lawsonEuler-m t h A U G)
+    (more-m (norsettEuler-m t h A U F)
+    (more-m (etdrk2-m t h A U F G)
+    (more-m (etdrk3-m t h A U F B)
+    (more-m (etdrk4-m t h A U F B)
+    (more-m (hochOst4-m t h A U F B)
+    (more-m (exp4-m t h A U F)
+    (more-m (epirk4s3A-m t h A U F)
+    (more-m (epirk4s3B-m t h A U F)
+    (more-m (epirk5s3-m t h A U F)
+    (more-m (exprb53s3-m t h A U F)
+    (more-m (epirk5p1-m t h A U F)
+    (more-m (epirk5p2-m t h A U F)
+    (more-m (etd2-m t h A U G held W)
+    (more-m (exprb32-m t h A U F)
+    (more-m (exprb43-m t h A U F B) none-m))))))))))))))))
+    (done-m false zeros-m zeros-m)
