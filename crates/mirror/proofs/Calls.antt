@@ -1,5 +1,6 @@
 -- Mirrored calls: the same answer, mirrored sessions, mirrored outputs. Assumes nothing.
 use Prim.Native.Nat.{ℕ, zero, suc, _+_, _*_, _≤_, _<_}
+use native.Mathlib.Decide.{decLt}
 use native.Mathlib.Omega.{arith}
 use mathlib.Core.Path.{_≡_, refl, sym, ap, ap₂, _∙_, subst, subst₂}
 use mathlib.Core.Bool.{Bool, true, false, cond, _&&_, true≢false, false≢true}
@@ -7,6 +8,7 @@ use mathlib.Core.List.{List, [], _∷_}
 use lib.Dec.{eqb, leb}
 use lib.Ieee.{Float, le}
 use lib.ListN.{length}
+use borrow.Author.Tests.{lt-leb}
 use Rattle.float.specs.Arith.{_⊕_, zero+, epsilon, finite}
 use Rattle.evaluation.specs.Evaluation.{allFinite}
 use Rattle.methods.specs.Step.{Progress, refused, asking, ended}
@@ -19,13 +21,14 @@ use Rattle.session.specs.declared.Attempt.{Attempt}
 use Rattle.session.specs.declared.Attempt.the-variants.{None, Supplied, Differenced}
 use Rattle.session.specs.declared.Wish.{Wish}
 use Rattle.session.specs.declared.Wish.the-variants.{Given, Difference}
-use Rattle.session.specs.Session.{clear, usedJacobian, wanted, stepOk, fault, progress}
-use Rattle.session.specs.Calls.{Outcome, outcome, tell, unless, except, nothing, begun, rested, answered, hasError, readyOf, shown, arrived, settled, faultVector, attemptOf, faultBegin, beginCall, supplyCall, acceptCall, dropCall, firstStepCall}
+use Rattle.session.specs.declared.History.{History}
+use Rattle.session.specs.Session.{usedHistory, usedJacobian, sizeOk, wanted, stepOk, good1, fault, progress}
+use Rattle.session.specs.Calls.{Outcome, outcome, tell, unless, except, opened, nothing, begun, rested, answered, hasError, readyOf, shown, arrived, settled, faultVector, attemptOf, faultBegin, openCall, beginCall, supplyCall, acceptCall, dropCall, firstStepCall}
 use Rattle.mirror.specs.Mirror.{within, isRefused}
 use Rattle.mirror.proofs.Vectors.{Vecs, cross}
 use Rattle.mirror.proofs.Steps.{Progresses, refused-m, asking-m, ended-m}
 use Rattle.mirror.proofs.Places.{Placed, nil-m, finite-p, clear-p, vecs, placed, written-m}
-use Rattle.mirror.proofs.Sessions.{Lives, live, Sessions, void, alive, isDifferenced, fault-m, norm-m, first-m, progress-m, begun-m, rested-m, answered-m, moved-m}
+use Rattle.mirror.proofs.Sessions.{Lives, live, Sessions, void, alive, isDifferenced, fault-m, norm-m, first-m, progress-m, opened-m, begun-m, rested-m, answered-m, moved-m}
 
 pub record Tolds (n : ℕ) (σ : ℕ → Bool) (t t' : Told) : Type 0 where
   pub answers : t .answer ≡ t' .answer
@@ -132,3 +135,88 @@ module _ {n : ℕ} {σ : ℕ → Bool} where
   pub firstStep-m : {s s' : Session} (z : Float) → Lives n σ s s' → Tolds n σ (firstStepCall s z) (firstStepCall s' z)
   unfolding firstStepCall
   firstStep-m z S = unless-m _ _ (fault-m _ S) (alive S) (unless-m _ _ refl (alive S) (first-told z S))
+
+-- a step that is refused gives back the session and the output as they came
+shown-refused : (b s : Session) (o : List Float) (p : Progress) → isRefused (shown b s o p .told .answer) ≡ true → shown b s o p ≡ outcome (tell (Refused 6) b) o
+unfolding shown readyOf isRefused
+shown-refused b s o refused e = refl
+shown-refused b s o (asking x t) e = absurd (false≢true e)
+shown-refused b s o (ended x d g) e = absurd (false≢true e)
+
+-- ---- refusals by 1 for the dimension
+fault-size : (phase : _) (s : Session) → sizeOk (s .n) ≡ false → fault phase s ≡ 1
+unfolding fault good1
+fault-size phase s e = rw e
+
+and-false : (b : Bool) → b && false ≡ false
+and-false true = refl
+and-false false = refl
+
+size-past : (n : ℕ) → 16 < n → sizeOk n ≡ false
+unfolding sizeOk
+size-past n h = ap (λ (b : Bool). leb 1 n && b) (lt-leb n 16 h) ∙ and-false (leb 1 n)
+
+fault-past : (phase : _) (k n : ℕ) (t : Float) (u f : List Float) (rtol atol : Float) (held : History) (w : List Float) → 16 < n → fault phase (opened k n t u f rtol atol held w) ≡ 1
+fault-past phase k n t u f rtol atol held w h = fault-size phase (opened k n t u f rtol atol held w) (unfold opened in size-past n h)
+
+fault-void : (phase : _) → fault phase nothing ≡ 1
+fault-void phase = fault-size phase nothing (unfold nothing opened sizeOk in refl)
+
+module _ {n : ℕ} {σ : ℕ → Bool} where
+  except-void : (o o' : List Float) (r r' : Outcome) (k k' : ℕ) → k ≡ 1 → k' ≡ 1 → Outcomes n σ (except k nothing o r) (except k' nothing o' r')
+  except-void o o' r r' k k' e e' =
+      subst₂ (λ (a b : ℕ). Outcomes n σ (except a nothing o r) (except b nothing o' r')) (sym e) (sym e') (unfold except in refused-outcome 1 void)
+
+  unless-void : (r r' : Told) (k k' : ℕ) → k ≡ 1 → k' ≡ 1 → Tolds n σ (unless k nothing r) (unless k' nothing r')
+  unless-void r r' k k' e e' = subst₂ (λ (a b : ℕ). Tolds n σ (unless a nothing r) (unless b nothing r')) (sym e) (sym e') (unfold unless in refused-told 1 void)
+
+  pub begin-void : (h : Float) (w w' : Wish) (j j' o o' : List Float) → Outcomes n σ (beginCall nothing h w j o) (beginCall nothing h w' j' o')
+  unfolding beginCall
+  begin-void h w w' j j' o o' = except-void o o' _ _ _ _ (fault-void _) (fault-void _)
+
+  pub supply-void : (x x' o o' : List Float) → Outcomes n σ (supplyCall nothing x o) (supplyCall nothing x' o')
+  unfolding supplyCall
+  supply-void x x' o o' = except-void o o' _ _ _ _ (fault-void _) (fault-void _)
+
+  pub accept-void : (x x' : List Float) → Tolds n σ (acceptCall nothing x) (acceptCall nothing x')
+  unfolding acceptCall
+  accept-void x x' = unless-void _ _ _ _ (fault-void _) (fault-void _)
+
+  pub drop-void : Tolds n σ (dropCall nothing) (dropCall nothing)
+  unfolding dropCall
+  drop-void = unless-void _ _ _ _ (fault-void _) (fault-void _)
+
+  pub firstStep-void : (z : Float) → Tolds n σ (firstStepCall nothing z) (firstStepCall nothing z)
+  unfolding firstStepCall
+  firstStep-void z = unless-void _ _ _ _ (fault-void _) (fault-void _)
+
+  -- ---- open
+  pub open-m : (k : ℕ) (t : Float) {u u' f f' : List Float} (rtol atol : Float) (held : History) {w w' : List Float}
+      → Placed (within n) σ u u' → Placed (within n) σ f f' → Placed (within (usedHistory held n)) σ w w'
+      → Tolds n σ (openCall k n t u f rtol atol held w) (openCall k n t u' f' rtol atol held w')
+  unfolding openCall
+  open-m k t {u} {u'} {f} {f'} rtol atol held {w} {w'} U F W = go (decLt n 17)
+    where
+      go : Dec (n < 17) → Tolds n σ (openCall k n t u f rtol atol held w) (openCall k n t u' f' rtol atol held w')
+      go (yes h) = let S = opened-m k t rtol atol held (omega arith) U F W in unless-m _ _ (fault-m _ S) void (record { answers = refl; sessions = alive S })
+      go (no h) = let l : 16 < n = omega arith in unless-void _ _ _ _ (fault-past _ k n t u f rtol atol held w l) (fault-past _ k n t u' f' rtol atol held w' l)
+
+  -- ---- a begin that wishes to difference, refused in both runs
+  declined : {s s' : Session} {r r' : Outcome} (o o' : List Float) (k k' l l' : ℕ) → k ≡ k' → l ≡ l' → Lives n σ s s'
+      → (isRefused (r .told .answer) ≡ true → r ≡ outcome (tell (Refused 6) s) o) → (isRefused (r' .told .answer) ≡ true → r' ≡ outcome (tell (Refused 6) s') o')
+      → isRefused (except k s o (except l s o r) .told .answer) ≡ true → isRefused (except k' s' o' (except l' s' o' r') .told .answer) ≡ true
+      → Outcomes n σ (except k s o (except l s o r)) (except k' s' o' (except l' s' o' r'))
+  declined {s} {s'} {r} {r'} o o' k k' l l' e d S f f' q q' =
+      subst₂ (λ (a b : ℕ). isRefused (except a s' o' (except b s' o' r') .told .answer) ≡ true → Outcomes n σ (except k s o (except l s o r)) (except a s' o' (except b s' o' r'))) e d (go k l q) q'
+    where
+      go : (k l : ℕ) → isRefused (except k s o (except l s o r) .told .answer) ≡ true → isRefused (except k s' o' (except l s' o' r') .told .answer) ≡ true
+          → Outcomes n σ (except k s o (except l s o r)) (except k s' o' (except l s' o' r'))
+      go zero zero q q' = unfold except in subst₂ (λ (a b : Outcome). Outcomes n σ a b) (sym (f q)) (sym (f' q')) (refused-outcome 6 (alive S))
+      go zero (suc l) q q' = unfold except in refused-outcome (suc l) (alive S)
+      go (suc k) l q q' = unfold except in refused-outcome (suc k) (alive S)
+
+  pub difference-m : {s s' : Session} {j j' : List Float} (o o' : List Float) (h : Float) → length o ≡ length o' → Lives n σ s s' → Placed (within (usedJacobian Differenced n)) (cross n σ) j j'
+      → isRefused (beginCall s h Difference j o .told .answer) ≡ true → isRefused (beginCall s' h Difference j' o' .told .answer) ≡ true
+      → Outcomes n σ (beginCall s h Difference j o) (beginCall s' h Difference j' o')
+  unfolding beginCall attemptOf
+  difference-m {s} {s'} o o' h e S J q q' = declined o o' _ _ _ _ (fault-m _ S) (begin-fault o o' h Differenced e S J) S (shown-refused _ _ o _) (shown-refused _ _ o' _) q q'

@@ -6,3 +6,4 @@ pub mod Steps
 pub mod Places
 pub mod Sessions
 pub mod Calls
+pub mod Runs
