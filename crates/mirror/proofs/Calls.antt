@@ -1,34 +1,32 @@
 -- Mirrored calls: the same answer, mirrored sessions, mirrored outputs. Assumes nothing.
-use Prim.Native.Nat.{ℕ, zero, suc, _+_, _*_, _≤_, _<_}
+use Prim.Native.Nat.{ℕ, zero, suc, _<_}
 use native.Mathlib.Decide.{decLt}
 use native.Mathlib.Omega.{arith}
-use mathlib.Core.Path.{_≡_, refl, sym, ap, ap₂, _∙_, subst, subst₂}
+use mathlib.Core.Path.{_≡_, refl, sym, ap, _∙_, subst, subst₂}
 use mathlib.Core.Bool.{Bool, true, false, cond, _&&_, true≢false, false≢true}
-use mathlib.Core.List.{List, [], _∷_}
+use mathlib.Core.List.{List, []}
 use lib.Dec.{eqb, leb}
-use lib.Ieee.{Float, le}
+use lib.Ieee.{Float}
 use lib.ListN.{length}
 use borrow.Author.Tests.{lt-leb}
-use Rattle.float.specs.Arith.{_⊕_, zero+, epsilon, finite}
-use Rattle.evaluation.specs.Evaluation.{allFinite}
+use Rattle.float.specs.Arith.{_⊕_, zero+, finite}
 use Rattle.methods.specs.Step.{Progress, refused, asking, ended}
 use Rattle.engine.specs.Engine.{firstStep}
 use Rattle.session.specs.declared.Session.{Session}
 use Rattle.session.specs.declared.Told.{Told}
-use Rattle.session.specs.declared.Answer.{Answer}
-use Rattle.session.specs.declared.Answer.the-variants.{Ask, Ready, Resting, FirstStep, Refused}
+use Rattle.session.specs.declared.Answer.the-variants.{Ready, FirstStep, Refused}
 use Rattle.session.specs.declared.Attempt.{Attempt}
-use Rattle.session.specs.declared.Attempt.the-variants.{None, Supplied, Differenced}
+use Rattle.session.specs.declared.Attempt.the-variants.{Supplied, Differenced}
 use Rattle.session.specs.declared.Wish.{Wish}
 use Rattle.session.specs.declared.Wish.the-variants.{Given, Difference}
 use Rattle.session.specs.declared.History.{History}
-use Rattle.session.specs.Session.{usedHistory, usedJacobian, sizeOk, wanted, stepOk, good1, fault, progress}
-use Rattle.session.specs.Calls.{Outcome, outcome, tell, unless, except, opened, nothing, begun, rested, answered, hasError, readyOf, shown, arrived, settled, faultVector, attemptOf, faultBegin, openCall, beginCall, supplyCall, acceptCall, dropCall, firstStepCall}
+use Rattle.session.specs.Session.{usedHistory, usedJacobian, sizeOk, wanted, stepOk, good1, fault}
+use Rattle.session.specs.Calls.{Outcome, outcome, tell, unless, except, opened, nothing, hasError, readyOf, shown, arrived, settled, faultVector, attemptOf, faultBegin, openCall, beginCall, supplyCall, acceptCall, dropCall, firstStepCall}
 use Rattle.mirror.specs.Mirror.{within, isRefused}
 use Rattle.mirror.proofs.Vectors.{Vecs, cross}
 use Rattle.mirror.proofs.Steps.{Progresses, refused-m, asking-m, ended-m}
 use Rattle.mirror.proofs.Places.{Placed, nil-m, finite-p, clear-p, vecs, placed, written-m}
-use Rattle.mirror.proofs.Sessions.{Lives, live, Sessions, void, alive, isDifferenced, fault-m, norm-m, first-m, progress-m, opened-m, begun-m, rested-m, answered-m, moved-m}
+use Rattle.mirror.proofs.Sessions.{Lives, live, Sessions, void, alive, fault-m, norm-m, first-m, progress-m, opened-m, begun-m, rested-m, answered-m, moved-m}
 
 pub record Tolds (n : ℕ) (σ : ℕ → Bool) (t t' : Told) : Type 0 where
   pub answers : t .answer ≡ t' .answer

@@ -1,12 +1,12 @@
 -- Mirrored numbers: `Mirror s x y` says that y is x with its sign turned where s is true, zeros of either sign being equal; and what one rounding makes of them. Assumes nothing.
-use Prim.Native.Nat.{ℕ, zero, suc, _+_, _-_, _*_, _/_, _^_, _%_, _≤_, compare, Ordering, Ordering·lt, Ordering·eq, Ordering·gt, compare·zero-suc, compare·zero-zero}
-use native.Mathlib.Nat.{zero-mul, mul-zero, zero-add, add-zero, sub-zero, zero-sub, zero-div, zero-mod}
+use Prim.Native.Nat.{ℕ, zero, suc, _+_, _-_, _*_, _/_, _^_, _%_, _≤_, compare, compare·zero-suc}
+use native.Mathlib.Nat.{zero-mul, mul-zero, zero-add, add-zero, sub-zero, zero-div, zero-mod}
 use native.Mathlib.Omega.{arith}
 use mathlib.Core.Path.{_≡_, refl, sym, ap, _∙_, subst}
-use mathlib.Core.Bool.{Bool, true, false, cond, not, _&&_, _||_, Bool·beq}
-use lib.Dec.{T, leb, ltb, eqb, ltb→lt, nltb→le, leb·zero, leb·suc-zero, leb·suc-suc, isLe}
-use lib.IntN.{ℤ, pos, negsuc}
-use lib.Ieee.{Float, nan, inf, fin, Format, binary64, prec, emax, low, up, down, unlike, neg, add, sub, mul, div, sum, round, units, odd, size, span, climb, nearest, ofBits, ofFields}
+use mathlib.Core.Bool.{Bool, true, false, cond, not, _&&_}
+use lib.Dec.{T, ltb, eqb, nltb→le, leb·zero, leb·suc-zero, leb·suc-suc}
+use lib.IntN.{ℤ, pos}
+use lib.Ieee.{Float, nan, inf, fin, binary64, prec, emax, low, up, down, unlike, neg, add, sub, mul, div, sum, round, units, odd, size, span, climb, nearest, ofBits, ofFields}
 use lib.Count.{trailingZeros}
 use Rattle.float.specs.Arith.{zero+, abs, finite, _⊕_, _⊖_, _⊗_, _⊘_}
 use Rattle.mirror.specs.Mirror.{flip}

@@ -1,6 +1,5 @@
 -- The exponential of mirrored matrices, and its actions on mirrored vectors: norms and row sums are equal, so both runs square as often and stop at the same term. Assumes nothing.
-use Prim.Native.Nat.{ℕ, zero, suc, _+_, _-_, _*_, _≤_, _<_}
-use native.Mathlib.Decide.{decLt}
+use Prim.Native.Nat.{ℕ, zero, suc, _+_, _-_, _≤_, _<_}
 use native.Mathlib.Omega.{arith}
 use mathlib.Core.Path.{_≡_, refl, sym, ap, ap₂, _∙_, subst}
 use mathlib.Core.Bool.{Bool, true, false, cond, not, _&&_}
@@ -10,12 +9,10 @@ use lib.IntN.{pos}
 use lib.Ieee.{Float, binary64, unlike, le, ofInt}
 use lib.ListN.{length}
 use borrow.Author.Tests.{lt-ltb, le-ltb}
-use Rattle.loops.specs.Loop.{iter, mat, _!_}
+use Rattle.loops.specs.Loop.{iter, _!_}
 use Rattle.float.specs.Arith.{_⊗_, zero+, one, epsilon, limit, finite, abs, most}
 use Rattle.matrix.specs.Matrix.{at, identity, matMul, divAll, addAll, maxAbs, rowSum, norm, admitted, squarings, power, scaled, nextTerm, small, Series, series, taylor, squared, exponential}
-use Rattle.matrix.specs.Vector.{zeros, vec, matVec}
 use Rattle.methods.specs.declared.Action.{Action}
-use Rattle.methods.specs.Vectors.{scale}
 use Rattle.methods.specs.Phi.{checked, over, augmentedEntry, augmented, phiAction, phiTerm, expAction}
 use Rattle.mirror.proofs.Floats.{Mirror, m-refl, add-m, mul-m, mul-same, div-m, abs-m, zero-m, unlike-self, unlike-false}
 use Rattle.mirror.proofs.Vectors.{Vecs, Mats, m-sign, cell, vec-m, tab-m, mat-m, iter-m, sum-eq, most-eq, every-eq, inner, zeros-m, scale-m, matVec-m}

@@ -1,21 +1,19 @@
 -- Mirrored passes: the same questions and the same end, mirrored, as long as the answers are. Assumes nothing.
 use Prim.Native.Nat.{ℕ, zero, suc, _<_}
-use mathlib.Core.Path.{_≡_, refl, ap₂, subst}
+use mathlib.Core.Path.{_≡_, refl, subst}
 use mathlib.Core.Bool.{Bool, true, false, _&&_}
 use mathlib.Core.List.{List, [], _∷_}
 use lib.Dec.{lit<}
 use lib.Ieee.{Float}
 use lib.ListN.{getD}
 use Rattle.float.specs.Arith.{_⊘_}
-use Rattle.matrix.specs.Vector.{zeros, matVec}
 use Rattle.methods.specs.declared.Action.{Action}
 use Rattle.methods.specs.declared.Point.{Point}
 use Rattle.methods.specs.Numbers.{num, minus}
-use Rattle.methods.specs.Vectors.{subtract, axpy}
 use Rattle.methods.specs.Pass.{Pass, ask, done, also, Line, now, try, question, shiftedStage, remainder, _>>=_}
 use Rattle.methods.specs.Schemes.{a52, a54, lawsonEuler, norsettEuler, etdrk2, etdrk3, etdrk4, hochOst4, exp4, epirk4s3, epirk4s3A, epirk4s3B, epirk5s3, exprb53s3, epirk5p1, epirk5p2, etd2, exprb32, exprb43}
 use Rattle.methods.specs.Step.{pass}
-use Rattle.mirror.proofs.Vectors.{Vecs, Mats, Terms, no-terms, one-term, zeros-m, plus-m, minus-m, scale-m, axpy-m, combine-m, matVec-m}
+use Rattle.mirror.proofs.Vectors.{Vecs, Mats, no-terms, one-term, zeros-m, plus-m, minus-m, scale-m, axpy-m, combine-m, matVec-m}
 use Rattle.mirror.proofs.Matrices.{Actions, over-m, phiAction-m, phiTerm-m, expAction-m}
 
 pub data Passes (n : ℕ) (σ : ℕ → Bool) : Pass → Pass → Type 0 where

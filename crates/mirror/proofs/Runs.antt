@@ -1,13 +1,13 @@
 -- Demand 3 proved: an opening and a list of calls, and what the working relations say in the statement's words. Assumes nothing.
-use Prim.Native.Nat.{ℕ, _*_, _/_, _%_, _≤_, _<_}
+use Prim.Native.Nat.{ℕ, _/_, _%_, _≤_, _<_}
 use native.Mathlib.Decide.{decLt}
 use native.Mathlib.Omega.{arith}
-use mathlib.Core.Path.{_≡_, refl, sym, ap, _∙_, subst, subst₂}
-use mathlib.Core.Logic.{_⊎_, inl, inr}
+use mathlib.Core.Path.{_≡_, refl, sym, ap, subst, subst₂}
+use mathlib.Core.Logic.{inl, inr}
 use mathlib.Core.Bool.{Bool, true, false, _&&_}
-use mathlib.Core.List.{List, [], _∷_}
+use mathlib.Core.List.{List}
 use lib.Dec.{ltb, leb·suc-zero}
-use lib.Ieee.{Float, nan, inf, fin, unlike}
+use lib.Ieee.{Float, nan, inf, fin}
 use lib.ListN.{length}
 use Rattle.loops.specs.Loop.{tab, _!_}
 use Rattle.loops.proofs.Loops.{length-tab, tab-at}
@@ -19,12 +19,12 @@ use Rattle.session.specs.declared.Attempt.the-variants.{None, Supplied, Differe
 use Rattle.session.specs.declared.Wish.the-variants.{Given, Difference}
 use Rattle.session.specs.Session.{usedHistory, usedJacobian}
 use Rattle.session.specs.Calls.{Outcome, nothing, opened}
-use Rattle.mirror.specs.Mirror.{Opening, Call, begin, supply, accept, drop, firstStep, perform, opening, run, flip, flipped, within, inHistory, inWish, inJacobian, inAnswers, entryTurned, flippedOpening, FlippedCall, begins, supplies, accepts, drops, firstSteps, FlippedCalls, no-call, and-call, isRefused, wishesDifference, Undifferenced, Zero, Agrees, Alike, Mirrored, SameOutcome, SameOutcomes, no-outcome, and-outcome, MirroredRuns}
+use Rattle.mirror.specs.Mirror.{Opening, Call, perform, opening, run, flip, flipped, inHistory, inWish, inJacobian, inAnswers, flippedOpening, FlippedCall, begins, supplies, accepts, drops, firstSteps, FlippedCalls, no-call, and-call, isRefused, wishesDifference, Undifferenced, Zero, Agrees, Alike, Mirrored, SameOutcome, SameOutcomes, no-outcome, and-outcome, MirroredRuns}
 use Rattle.mirror.proofs.Floats.{Mirror, m-nan, m-inf, m-fin, m-zero, m-flip, false-unlike}
 use Rattle.mirror.proofs.Vectors.{past-end}
 use Rattle.mirror.proofs.Places.{At, at-nan, Placed, in-use, blank-m}
-use Rattle.mirror.proofs.Sessions.{Lives, live, Sessions, void, alive}
-use Rattle.mirror.proofs.Calls.{Tolds, Outcomes, bare-m, begin-m, difference-m, supply-m, accept-m, drop-m, firstStep-m, begin-void, supply-void, accept-void, drop-void, firstStep-void, open-m}
+use Rattle.mirror.proofs.Sessions.{live, Sessions, void, alive}
+use Rattle.mirror.proofs.Calls.{Outcomes, bare-m, begin-m, difference-m, supply-m, accept-m, drop-m, firstStep-m, begin-void, supply-void, accept-void, drop-void, firstStep-void, open-m}
 
 -- ---- the flips
 flip-false : (x : Float) → flip false x ≡ x

@@ -1,19 +1,15 @@
 -- Mirrored sessions: their tests, figures, steps, and the sessions that the calls make of them. Assumes nothing.
-use Prim.Native.Nat.{ℕ, zero, suc, _+_, _-_, _*_, _≤_, _<_}
+use Prim.Native.Nat.{ℕ, _+_, _-_, _≤_, _<_}
 use native.Mathlib.Omega.{arith}
-use mathlib.Core.Path.{_≡_, refl, sym, ap, ap₂, _∙_, subst}
+use mathlib.Core.Path.{_≡_, refl, ap, ap₂, _∙_}
 use mathlib.Core.Bool.{Bool, true, false, cond, _&&_, true≢false, false≢true}
-use mathlib.Core.List.{List, []}
-use lib.Dec.{eqb, leb}
+use mathlib.Core.List.{List}
+use lib.Dec.{eqb}
 use lib.IntN.{pos}
 use lib.Ieee.{Float, binary64, ofInt}
-use lib.ListN.{length, take}
 use Rattle.loops.specs.Loop.{_!_}
 use Rattle.float.specs.Arith.{_⊕_, _⊗_, _⊘_, zero+, finite, abs, larger, powi2}
 use Rattle.float.specs.Root.{sqrt}
-use Rattle.evaluation.specs.Evaluation.{allFinite}
-use Rattle.methods.specs.Pass.{answer}
-use Rattle.methods.specs.Step.{Progress, refused, performStep}
 use Rattle.engine.specs.Engine.{ratio, errorNorm, rate, estimate, clamp, firstStep}
 use Rattle.session.specs.declared.Session.{Session}
 use Rattle.session.specs.declared.History.{History}
@@ -25,9 +21,9 @@ use Rattle.session.specs.Calls.{opened, nothing, begun, rested, answered, moved
 use Rattle.mirror.specs.Mirror.{within}
 use Rattle.mirror.proofs.Floats.{abs-m, div-m, square-m}
 use Rattle.mirror.proofs.Vectors.{Vecs, cross, sum-eq, most-eq}
-use Rattle.mirror.proofs.Passes.{Points, points}
+use Rattle.mirror.proofs.Passes.{points}
 use Rattle.mirror.proofs.Steps.{Progresses, refused-m, step-m}
-use Rattle.mirror.proofs.Places.{Placed, slots, slot, blank-m, finite-p, clear-p, clear-answers, vecs, placed, mats, answer-m, store-m}
+use Rattle.mirror.proofs.Places.{Placed, slots, slot, blank-m, finite-p, clear-p, clear-answers, vecs, mats, answer-m, store-m}
 
 abbrev pub isDifferenced : Attempt → Bool
 isDifferenced None = false

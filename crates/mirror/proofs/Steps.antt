@@ -1,12 +1,11 @@
 -- Mirrored steps, as far as mirrored answers lead. Assumes nothing.
-use Prim.Native.Nat.{ℕ, zero, suc, _+_, _*_, _≤_, _<_}
+use Prim.Native.Nat.{ℕ, zero, suc, _+_, _≤_, _<_}
 use native.Mathlib.Omega.{arith}
-use mathlib.Core.Path.{_≡_, refl, ap, ap₂, subst}
+use mathlib.Core.Path.{_≡_, ap₂, subst}
 use mathlib.Core.Bool.{Bool, true, false, cond, _&&_}
 use mathlib.Core.List.{List}
 use lib.Ieee.{Float}
 use Rattle.float.specs.Arith.{finite}
-use Rattle.evaluation.specs.Evaluation.{allFinite}
 use Rattle.methods.specs.declared.Point.{Point}
 use Rattle.methods.specs.Pass.{Pass, Stand, fails, asks, ends, answer, replay}
 use Rattle.methods.specs.Step.{Progress, refused, asking, ended, finish, performStep}

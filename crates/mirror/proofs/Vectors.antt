@@ -3,21 +3,21 @@ use Prim.Native.Nat.{ℕ, zero, suc, _+_, _-_, _*_, _/_, _%_, _≤_, _<_}
 use native.Mathlib.Decide.{decLt}
 use native.Mathlib.Omega.{arith}
 use mathlib.Core.Path.{_≡_, refl, sym, ap, ap₂, _∙_, subst}
-use mathlib.Core.Bool.{Bool, true, false, cond, _&&_}
+use mathlib.Core.Bool.{Bool, true, false, _&&_}
 use mathlib.Core.List.{List, [], _∷_, _++_}
 use lib.Ieee.{Float, nan, unlike}
-use lib.ListN.{getD, length, replicate, drop, length-append, List·getD-eq-default, getD-replicate}
+use lib.ListN.{length, replicate, drop, length-append, List·getD-eq-default}
 use lib.Seq.{getD-append-add}
 use Rattle.loops.specs.Loop.{iter, every, tab, mat, fill, _!_}
 use Rattle.loops.proofs.Loops.{length-tab, tab-at}
-use Rattle.loops.proofs.Places.{row-fits, row-below, column-below, place-row, place-column}
-use Rattle.float.specs.Arith.{_⊕_, _⊖_, _⊗_, _⊘_, zero+, finite, larger, sumOf, most}
+use Rattle.loops.proofs.Places.{row-below, column-below, place-row, place-column}
+use Rattle.float.specs.Arith.{_⊕_, zero+, finite, larger, sumOf, most}
 use Rattle.evaluation.specs.Evaluation.{allFinite}
 use Rattle.matrix.specs.Matrix.{at}
 use Rattle.matrix.specs.Vector.{zeros, vec, matVec}
 use Rattle.matrix.proofs.Vectors.{vec-at}
 use Rattle.methods.specs.Vectors.{add, subtract, scale, axpy, axpyAll, combine}
-use Rattle.mirror.proofs.Floats.{Mirror, m-nan, m-refl, add-m, sub-m, mul-m, mul-same, finite-m, zero-m}
+use Rattle.mirror.proofs.Floats.{Mirror, m-nan, add-m, sub-m, mul-m, mul-same, finite-m, zero-m}
 
 -- ---- what stands where
 
