@@ -67,9 +67,6 @@ module _ {n : ℕ} {σ : ℕ → Bool} where
   unfolding readyOf
   ready-m (live k t rtol atol h held a c N D U F W J R) X E = ap (λ (z : Float). Ready (cond (hasError k) z zero+) (wanted k n a) 1) (norm-m rtol atol (vecs U) X E)
 
-  size-m : {s s' : Session} → Lives n σ s s' → (s .n ≡ n) × (s' .n ≡ n)
-  size-m (live k t rtol atol h held a c N D U F W J R) = (refl, refl)
-
   shown-m : {b b' s s' : Session} (o o' : List Float) {p p' : Progress} → Lives n σ b b' → Lives n σ s s' → Progresses n σ p p' → Outcomes n σ (shown b s o p) (shown b' s' o' p')
   unfolding shown
   shown-m o o' B S refused-m = refused-outcome 6 (alive B)

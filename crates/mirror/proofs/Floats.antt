@@ -18,16 +18,6 @@ pub data Mirror (s : Bool) : Float → Float → Type 0 where
   m-zero : (t u : Bool) → Mirror s (fin t 0 (pos 0)) (fin u 0 (pos 0))
 
 -- ---- signs
-pub unlike-both : (s t u : Bool) → unlike (unlike s t) (unlike s u) ≡ unlike t u
-unlike-both true true true = refl
-unlike-both true true false = refl
-unlike-both true false true = refl
-unlike-both true false false = refl
-unlike-both false true true = refl
-unlike-both false true false = refl
-unlike-both false false true = refl
-unlike-both false false false = refl
-
 pub unlike-mix : (s t u v : Bool) → unlike (unlike s t) (unlike u v) ≡ unlike (unlike s u) (unlike t v)
 unlike-mix true true true true = refl
 unlike-mix true true true false = refl

@@ -7,3 +7,4 @@ pub mod Places
 pub mod Sessions
 pub mod Calls
 pub mod Runs
+pub mod Rows

@@ -69,17 +69,17 @@ cell {n} {σ} A i j h = m-sign (ap₂ (λ (k l : ℕ). unlike (σ k) (σ l)) (pl
 
 vec-size : (n : ℕ) (f g : ℕ → Float) → length (vec n f) ≡ length (vec n g)
 unfolding vec fill
-vec-size n f g = rw (length-append, length-append, length-tab, length-tab)
+vec-size n f g = rw (length-append (tab n f) (drop n zeros), length-append (tab n g) (drop n zeros), length-tab n f, length-tab n g)
 
 vec-past : (n : ℕ) (f g : ℕ → Float) (i : ℕ) → n ≤ i → vec n f ! i ≡ vec n g ! i
 unfolding vec fill
-vec-past n f g i h = append-past (tab n f) (tab n g) (drop n zeros) i (rw (length-tab, length-tab)) (rw length-tab h)
+vec-past n f g i h = append-past (tab n f) (tab n g) (drop n zeros) i (rw (length-tab n f, length-tab n g)) (rw length-tab h)
 
 pub vec-m : (n : ℕ) (σ : ℕ → Bool) (f g : ℕ → Float) → ((i : ℕ) → i < n → Mirror (σ i) (f i) (g i)) → Vecs n σ (vec n f) (vec n g)
 vec-m n σ f g p = record { size = vec-size n f g; below = λ i h. rw (vec-at n f i h, vec-at n g i h) (p i h); past = vec-past n f g }
 
 pub tab-m : (n : ℕ) (σ : ℕ → Bool) (k k' : ℕ) (f g : ℕ → Float) → k ≡ k' → ((p : ℕ) → p < k → Mirror (cross n σ p) (f p) (g p)) → Mats n σ (tab k f) (tab k' g)
-tab-m n σ k k' f g e h = record { size = rw (length-tab, length-tab) e; place = tab-mirror k k' (cross n σ) f g e h }
+tab-m n σ k k' f g e h = record { size = rw (length-tab k f, length-tab k' g) e; place = tab-mirror k k' (cross n σ) f g e h }
 
 pub mat-m : (n : ℕ) (σ : ℕ → Bool) (f g : ℕ → ℕ → Float) → ((i j : ℕ) → i < n → j < n → Mirror (unlike (σ i) (σ j)) (f i j) (g i j)) → Mats n σ (mat n f) (mat n g)
 unfolding mat
