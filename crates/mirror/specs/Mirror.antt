@@ -186,27 +186,10 @@ pub data SameOutcomes (n : ℕ) (turned : ℕ → Bool) : List Outcome → List 
   no-outcome : SameOutcomes n turned [] []
   and-outcome : {r r' : Outcome} {rs rs' : List Outcome} → SameOutcome n turned r r' → SameOutcomes n turned rs rs' → SameOutcomes n turned (r ∷ rs) (r' ∷ rs')
 
--- the arrays that a call is handed have the lengths of the code's types
-unfoldable pub Typed : Call → Type 0
-Typed (begin step wish jacobian out) = length jacobian ≡ 256
-Typed (supply answer out) = length answer ≡ 16
-Typed (accept derivative) = length derivative ≡ 16
-Typed drop = Unit
-Typed (firstStep largest) = Unit
-
-pub data AllTyped : List Call → Type 0 where
-  no-typed : AllTyped []
-  and-typed : {c : Call} {cs : List Call} → Typed c → AllTyped cs → AllTyped (c ∷ cs)
-
-pub record TypedOpening (o : Opening) : Type 0 where
-  pub state : length (o .state) ≡ 16
-  pub derivative : length (o .derivative) ≡ 16
-  pub previous : length (o .previous) ≡ 16
-
 -- DEMAND 3, whole
 unfoldable pub MirroredRuns : Type 0
 MirroredRuns =
-    (turned : ℕ → Bool) (o : Opening) (cs cs' : List Call) → TypedOpening o → AllTyped cs
+    (turned : ℕ → Bool) (o : Opening) (cs cs' : List Call)
     → FlippedCalls (o .n) turned cs cs'
     → Undifferenced (opening o .told .session) cs
     → Undifferenced (opening (flippedOpening turned o) .told .session) cs'
