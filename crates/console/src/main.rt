@@ -27,6 +27,10 @@ struct Reply {
 
 // ---- bytes
 
+fn wide(b: u8) -> usize {
+    b as usize
+}
+
 // Fills all of b from standard input; false where it ends before.
 fn read_all(b: &mut [u8]) -> bool {
     let wanted = b.len();
@@ -109,11 +113,11 @@ fn reply_of(answer: Answer) -> Reply {
 fn put_reply(b: &mut [u8], r: Reply)
     requires { ⌜ length (now b) ≡ 18 ⌝ }
 {
-    b[0] = r.outcome;
-    b[1] = r.refusal;
     wire::write_f64(&mut *b, 2, r.figure);
     wire::write_u32(&mut *b, 10, r.rhs);
     wire::write_u32(&mut *b, 14, r.jacobians);
+    b[0] = r.outcome;
+    b[1] = r.refusal;
 }
 
 fn say(answer: Answer) -> bool {
@@ -211,7 +215,7 @@ fn open_call(s: Session) -> Next {
     }
     told(Session::open(
         b[0],
-        b[1] as usize,
+        wide(b[1]),
         wire::read_f64(&b, 3),
         vector(&b, 27),
         vector(&b, 155),
@@ -315,14 +319,17 @@ fn exponential_call(s: Session) -> Next {
     }
     let entries = wire::read_u16(&b, 1) as usize;
     let lent = wire::read_u16(&b, 3) as usize;
-    if (entries > 512) | (lent > 512) {
+    if entries > 512 {
+        return stop(s);
+    }
+    if lent > 512 {
         return stop(s);
     }
     let room = 8 * entries;
     let mut bytes = [0u8; 4096];
     let mut m = [0.0; 512];
     let mut out = [-1.5; 512];
-    exponential_lent(s, b[0] as usize, &mut bytes[..room], &mut m[..entries], &mut out[..lent])
+    exponential_lent(s, wide(b[0]), &mut bytes[..room], &mut m[..entries], &mut out[..lent])
 }
 
 // What a bare phi action is handed besides its arrays.
@@ -375,12 +382,18 @@ fn phi_call(s: Session) -> Next {
     let entries = wire::read_u16(&b, 10) as usize;
     let inputs = wire::read_u16(&b, 12) as usize;
     let lent = wire::read_u16(&b, 14) as usize;
-    if (entries > 512) | (inputs > 512) | (lent > 512) {
+    if entries > 512 {
+        return stop(s);
+    }
+    if inputs > 512 {
+        return stop(s);
+    }
+    if lent > 512 {
         return stop(s);
     }
     let p = Phi {
-        n: b[0] as usize,
-        order: b[1] as usize,
+        n: wide(b[0]),
+        order: wide(b[1]),
         scale_a: wire::read_f64(&b, 2),
     };
     let room = 8 * entries;
@@ -397,7 +410,7 @@ fn norm_call(s: Session) -> Next {
     let relative = wire::read_f64(&b, 1);
     let absolute = wire::read_f64(&b, 9);
     let answer = session::error_norm(
-        b[0] as usize,
+        wide(b[0]),
         relative,
         absolute,
         vector(&b, 17),
@@ -413,30 +426,66 @@ fn norm_call(s: Session) -> Next {
 
 // ---- a session's image
 
-fn put_image(s: Session, b: &mut [u8])
+fn put_head(s: Session, b: &mut [u8])
     requires { ⌜ length (now b) ≡ 5029 ⌝ }
 {
     let history = s.history;
     let attempt = s.attempt;
-    let state = s.state;
-    let derivative = s.derivative;
-    let previous = s.previous;
-    let jacobian = s.jacobian;
-    let answers = s.answers;
+    wire::write_f64(&mut *b, 5, s.time);
+    wire::write_f64(&mut *b, 13, s.step);
+    wire::write_f64(&mut *b, 21, s.relative);
+    wire::write_f64(&mut *b, 29, s.absolute);
     b[0] = s.scheme;
     b[1] = (s.n % 256) as u8;
     b[2] = history_byte(history);
     b[3] = attempt_byte(attempt);
     b[4] = (s.count % 256) as u8;
-    wire::write_f64(&mut *b, 5, s.time);
-    wire::write_f64(&mut *b, 13, s.step);
-    wire::write_f64(&mut *b, 21, s.relative);
-    wire::write_f64(&mut *b, 29, s.absolute);
-    put_doubles(&state, &mut *b, 37);
-    put_doubles(&derivative, &mut *b, 165);
-    put_doubles(&previous, &mut *b, 293);
-    put_doubles(&jacobian, &mut *b, 421);
-    put_doubles(&answers, &mut *b, 2469);
+}
+
+fn put_vector(x: [f64; 16], b: &mut [u8], at: usize)
+    requires { ⌜ (at + 128 ≤ length (now b)) × (length (now b) ≤ 65536) ⌝ }
+{
+    put_doubles(&x, b, at);
+}
+
+fn put_jacobian(x: [f64; 256], b: &mut [u8])
+    requires { ⌜ length (now b) ≡ 5029 ⌝ }
+{
+    put_doubles(&x, b, 421);
+}
+
+fn put_answers(x: [f64; 320], b: &mut [u8])
+    requires { ⌜ length (now b) ≡ 5029 ⌝ }
+{
+    put_doubles(&x, b, 2469);
+}
+
+fn put_run(s: Session, b: &mut [u8])
+    requires { ⌜ length (now b) ≡ 5029 ⌝ }
+{
+    let state = s.state;
+    let derivative = s.derivative;
+    let previous = s.previous;
+    put_vector(state, &mut *b, 37);
+    put_vector(derivative, &mut *b, 165);
+    put_vector(previous, &mut *b, 293);
+}
+
+fn put_attempt(s: Session, b: &mut [u8])
+    requires { ⌜ length (now b) ≡ 5029 ⌝ }
+{
+    let jacobian = s.jacobian;
+    let answers = s.answers;
+    put_jacobian(jacobian, &mut *b);
+    put_answers(answers, &mut *b);
+}
+
+fn put_image(s: Session, b: &mut [u8])
+    requires { ⌜ length (now b) ≡ 5029 ⌝ }
+{
+    put_head(s, &mut *b);
+    put_run(s, &mut *b);
+    put_attempt(s, &mut *b);
 }
 
 fn show_call(s: Session) -> Next {
@@ -463,7 +512,7 @@ fn image(b: &[u8]) -> Session
     doubles(b, 2469, &mut answers);
     Session {
         scheme: b[0],
-        n: b[1] as usize,
+        n: wide(b[1]),
         time: wire::read_f64(b, 5),
         state: state,
         derivative: derivative,
@@ -474,7 +523,7 @@ fn image(b: &[u8]) -> Session
         attempt: attempt,
         step: wire::read_f64(b, 13),
         jacobian: jacobian,
-        count: b[4] as usize,
+        count: wide(b[4]),
         answers: answers,
     }
 }
