@@ -1,11 +1,12 @@
-pub mod Rows
+pub mod Bools
+pub mod Runs
 pub mod Products
 pub mod Sizes
 pub mod Powers
 pub mod Series
-pub mod Row
+pub mod RowSums
 pub mod Terms
 pub mod Stop
-pub mod Scaled
+pub mod Scaling
 pub mod Claims
 pub mod Whole
