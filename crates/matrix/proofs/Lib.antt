@@ -1,4 +1,5 @@
 pub mod Bools
+pub mod Vectors
 pub mod Runs
 pub mod Products
 pub mod Sizes

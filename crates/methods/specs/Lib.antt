@@ -1,0 +1,8 @@
+pub mod Numbers
+pub mod Vectors
+pub mod Phi
+pub mod Parts
+pub mod Pass
+pub mod Schemes
+pub mod Stages
+pub mod Step

@@ -1,0 +1,77 @@
+-- A scheme's pass as a tree of questions, and how far given answers lead into it. Definitions only.
+use Prim.Native.Nat.{ℕ, zero, suc, _+_, _*_}
+use mathlib.Core.Bool.{Bool, true, false, cond, _&&_}
+use mathlib.Core.List.{List}
+use lib.Ieee.{Float}
+use Rattle.loops.specs.Loop.{_!_}
+use Rattle.float.specs.Arith.{finite}
+use Rattle.evaluation.specs.Evaluation.{allFinite}
+use Rattle.matrix.specs.Vector.{vec, matVec}
+use Rattle.methods.specs.declared.Action.{Action}
+use Rattle.methods.specs.declared.Kind.{Kind}
+use Rattle.methods.specs.declared.Kind.the-variants.{Question, Done}
+use Rattle.methods.specs.declared.Out.{Out}
+use Rattle.methods.specs.Numbers.{num, minus}
+use Rattle.methods.specs.Vectors.{subtract, axpy}
+
+-- A pass asks about a state and a time, and goes on with the answer; or it ends in a candidate and an error vector.
+-- The flag says that the exponentials since the last question were admitted.
+pub data Pass : Type 0 where
+  ask : Bool → List Float → Float → (List Float → Pass) → Pass
+  done : Bool → List Float → List Float → Pass
+
+-- one check more before the next question or the end
+unfoldable pub also : Bool → Pass → Pass
+also b (ask ok x t next) = ask (b && ok) x t next
+also b (done ok x e) = done (b && ok) x e
+
+-- A line of a scheme: a vector worked out at once, one with a check, or a question with what is made of its answer.
+pub data Line : Type 0 where
+  now : List Float → Line
+  try : Action → Line
+  question : List Float → Float → (List Float → List Float) → Line
+
+infixl 20 _>>=_
+unfoldable pub _>>=_ : Line → (List Float → Pass) → Pass
+now x >>= next = next x
+try p >>= next = also (p .ok) (next (p .v))
+question x t made >>= next = ask true x t (λ answer. next (made answer))
+
+-- evaluate_new: the answer itself
+abbrev pub evaluateNew : List Float → Float → Line
+evaluateNew stage time = question stage time (λ value. value)
+
+-- shifted_stage: the answer, less a times the stage, plus au
+abbrev pub shiftedStage : ℕ → List Float → List Float → List Float → Float → Line
+shiftedStage n a stage au time = question stage time (λ value. axpy n (axpy n value (minus 1) (matVec n a stage)) (num 1) au)
+
+-- remainder: the answer, less f0, less a times (stage - base)
+abbrev pub remainder : ℕ → List Float → List Float → List Float → List Float → Float → Line
+remainder n a stage base f0 time = question stage time (λ value. axpy n (axpy n value (minus 1) f0) (minus 1) (matVec n a (subtract n stage base)))
+
+-- ---- replaying a pass over the answers so far
+
+-- where a pass stands: a test failed, it asks, or it has ended
+pub data Stand : Type 0 where
+  fails : Stand
+  asks : List Float → Float → Stand
+  ends : List Float → List Float → Stand
+
+-- answer j: n places from 16 j on
+unfoldable pub answer : ℕ → List Float → ℕ → List Float
+answer n answers j = vec n (λ i. answers ! (16 * j + i))
+
+-- The pass over `count` answers, the first of them answer j. Every question on the way is tested, answered ones too.
+unfoldable pub replay : ℕ → Pass → ℕ → ℕ → List Float → Stand
+replay n (ask ok x t next) zero j answers = cond (ok && allFinite x && finite t) (asks x t) fails
+replay n (ask ok x t next) (suc count) j answers =
+    cond (ok && allFinite x && finite t) (replay n (next (answer n answers j)) count (suc j) answers) fails
+replay n (done ok x e) count j answers = cond (ok && allFinite x && allFinite e) (ends x e) fails
+
+-- what the code's record says of it
+unfoldable pub standKind : Kind → List Float → List Float → Stand
+standKind (Question t) x e = asks x t
+standKind Done x e = ends x e
+
+unfoldable pub stand : Out → Stand
+stand o = cond (o .ok) (standKind (o .kind) (o .x) (o .e)) fails

@@ -1,0 +1,48 @@
+-- The actions of exponentials on a vector. Definitions only.
+use Prim.Native.Nat.{ℕ, suc, _+_, _-_, _*_}
+use mathlib.Core.Bool.{Bool, cond}
+use mathlib.Core.List.{List}
+use lib.Dec.{eqb, ltb}
+use lib.Ieee.{Float}
+use Rattle.loops.specs.Loop.{mat, _!_}
+use Rattle.float.specs.Arith.{_⊗_, zero+, one}
+use Rattle.matrix.specs.Matrix.{at, admitted, exponential}
+use Rattle.matrix.specs.Vector.{zeros, vec, matVec}
+use Rattle.methods.specs.declared.Action.{Action}
+use Rattle.methods.specs.Vectors.{scale}
+
+-- a vector that is worked out where the row sums are admitted, and is +0.0 where they are not
+unfoldable pub checked : Bool → List Float → Action
+checked ok x = record { ok = ok; v = cond ok x zeros }
+
+-- f of the vector, under the same check
+unfoldable pub over : (List Float → List Float) → Action → Action
+over f p = record { ok = p .ok; v = f (p .v) }
+
+-- the entry in row i and column j of the augmented matrix: scale_a times a, then the input column, and ones above the diagonal behind it
+unfoldable pub augmentedEntry : ℕ → List Float → Float → List Float → ℕ → ℕ → Float
+augmentedEntry n a scaleA input i j =
+    cond (ltb i n)
+    (cond (ltb j n) (scaleA ⊗ at a n i j) (cond (eqb j n) (input ! i) zero+))
+    (cond (eqb j (i + 1)) one zero+)
+
+-- the augmented matrix, of size n + order
+unfoldable pub augmented : ℕ → List Float → Float → ℕ → List Float → List Float
+augmented n a scaleA order input = mat (n + order) (augmentedEntry n a scaleA input)
+
+-- phi_action: the first n entries of the last column of its exponential
+unfoldable pub phiAction : ℕ → List Float → Float → ℕ → List Float → Action
+phiAction n a scaleA order input =
+    let size = n + order in
+    let m = augmented n a scaleA order input in
+    checked (admitted m size) (vec n (λ i. at (exponential m size .entries) size i (size - 1)))
+
+-- phi_term: coefficient times the phi action
+unfoldable pub phiTerm : ℕ → List Float → Float → ℕ → Float → List Float → Action
+phiTerm n a scaleA order coefficient input = over (λ v. scale n v coefficient) (phiAction n a scaleA order input)
+
+-- exp_action: the exponential of scale_a times a, times the input
+unfoldable pub expAction : ℕ → List Float → Float → List Float → Action
+expAction n a scaleA input =
+    let m = mat n (λ i j. scaleA ⊗ at a n i j) in
+    checked (admitted m n) (matVec n (exponential m n .entries) input)
