@@ -382,7 +382,12 @@ pub fn add_term(
     requires { ⌜ (1 ≤ order) × (order ≤ 4) ⌝ }
     ensures { λ r. ⌜ r ≡ more n sum factor (phiTerm n (now (a .entry)) «scale_a» order coefficient input) ⌝ }
 {
-    more(sum, factor, phi_term(a, scale_a, order, coefficient, input, n), n)
+    more(
+        sum,
+        factor,
+        phi_term(a, scale_a, order, coefficient, input, n),
+        n,
+    )
 }
 
 // Answer j, its first n places.
@@ -476,8 +481,8 @@ pub fn lawson_euler(a: &[f64], u: [f64; 16], g: [f64; 16], h: f64, n: usize) -> 
 {
     let shifted = axpy(u, h, g, n);
     let s = exp_action(a, h, shifted, n);
-    let x = s.v;
-    ended(s.ok, x, [0.0; 16])
+    let candidate = s.v;
+    ended(s.ok, candidate, [0.0; 16])
 }
 
 pub fn norsett_euler(a: &[f64], u: [f64; 16], f0: [f64; 16], h: f64, n: usize) -> Out

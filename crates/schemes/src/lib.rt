@@ -1,6 +1,32 @@
 // methods.rs: the long schemes, and perform_step. Every pass is replayed over the answers so far.
-use methods::{Action, Kind, Out, Point, StepResult};
-use methods::{add, subtract, scale, axpy, combine2, combine3, phi_action, phi_term, added, after, scaled, more, add_term, shifted_stage, remainder, may_ask, asked, ended, lawson_euler, norsett_euler, etdrk2, etdrk3, etd2};
+use methods::Action;
+use methods::Kind;
+use methods::Out;
+use methods::Point;
+use methods::StepResult;
+use methods::add;
+use methods::add_term;
+use methods::added;
+use methods::after;
+use methods::asked;
+use methods::axpy;
+use methods::combine2;
+use methods::combine3;
+use methods::ended;
+use methods::etd2;
+use methods::etdrk2;
+use methods::etdrk3;
+use methods::lawson_euler;
+use methods::may_ask;
+use methods::more;
+use methods::norsett_euler;
+use methods::phi_action;
+use methods::phi_term;
+use methods::remainder;
+use methods::scale;
+use methods::scaled;
+use methods::shifted_stage;
+use methods::subtract;
 ghost use mathlib.Core.Path.{_≡_};
 ghost use mathlib.Core.Bool.{cond};
 ghost use mathlib.Core.List.{List};
@@ -17,14 +43,7 @@ ghost use Rattle.methods.specs.Schemes.{etdrk4, a52, hochOst4, exp4, epirk4s3, 
 ghost use Rattle.methods.specs.Step.{pass, questions, finish, performStep, progress};
 ghost use Rattle.schemes.specs.Stages.{a52Of, a54Of, sum5, hochOst4·4, hochOst4·5, hochOst4·end};
 
-fn etdrk4(
-    p: Point,
-    a: &[f64],
-    au: [f64; 16],
-    answers: &[f64],
-    first: usize,
-    count: usize,
-) -> Out
+fn etdrk4(p: Point, a: &[f64], au: [f64; 16], answers: &[f64], first: usize, count: usize) -> Out
     requires { ⌜ Sized (p .n) (now a) ⌝ }
     requires { ⌜ length (now answers) ≡ 320 ⌝ }
     requires { ⌜ first ≤ 16 ⌝ }
@@ -72,13 +91,7 @@ fn etdrk4(
     ended(ok & k.ok, add(u, increment, n), [0.0; 16])
 }
 
-fn exp4(
-    p: Point,
-    a: &[f64],
-    answers: &[f64],
-    first: usize,
-    count: usize,
-) -> Out
+fn exp4(p: Point, a: &[f64], answers: &[f64], first: usize, count: usize) -> Out
     requires { ⌜ Sized (p .n) (now a) ⌝ }
     requires { ⌜ length (now answers) ≡ 320 ⌝ }
     requires { ⌜ first ≤ 16 ⌝ }
@@ -191,7 +204,21 @@ fn epirk4s3_a(p: Point, a: &[f64], answers: &[f64], first: usize, count: usize) 
     let c3 = 2.0 / 3.0;
     let k2 = phi_term(a, c2 * h, 1, c2 * h, f0, n);
     let k3 = phi_term(a, c3 * h, 1, c3 * h, f0, n);
-    epirk4s3(p, a, answers, first, count, k2, k3, c2, c3, 32.0, -13.5, -144.0, 81.0)
+    epirk4s3(
+        p,
+        a,
+        answers,
+        first,
+        count,
+        k2,
+        k3,
+        c2,
+        c3,
+        32.0,
+        -13.5,
+        -144.0,
+        81.0,
+    )
 }
 
 fn epirk4s3_b(p: Point, a: &[f64], answers: &[f64], first: usize, count: usize) -> Out
@@ -207,16 +234,24 @@ fn epirk4s3_b(p: Point, a: &[f64], answers: &[f64], first: usize, count: usize) 
     let c3 = 0.75;
     let k2 = phi_term(a, c2 * h, 2, 8.0 * float::powi2(c2 * h) / (3.0 * h), f0, n);
     let k3 = phi_term(a, c3 * h, 2, 16.0 * float::powi2(c3 * h) / (9.0 * h), f0, n);
-    epirk4s3(p, a, answers, first, count, k2, k3, c2, c3, 54.0, -16.0, -324.0, 144.0)
+    epirk4s3(
+        p,
+        a,
+        answers,
+        first,
+        count,
+        k2,
+        k3,
+        c2,
+        c3,
+        54.0,
+        -16.0,
+        -324.0,
+        144.0,
+    )
 }
 
-fn epirk5s3(
-    p: Point,
-    a: &[f64],
-    answers: &[f64],
-    first: usize,
-    count: usize,
-) -> Out
+fn epirk5s3(p: Point, a: &[f64], answers: &[f64], first: usize, count: usize) -> Out
     requires { ⌜ Sized (p .n) (now a) ⌝ }
     requires { ⌜ length (now answers) ≡ 320 ⌝ }
     requires { ⌜ first ≤ 16 ⌝ }
@@ -228,7 +263,14 @@ fn epirk5s3(
     let u = p.state;
     let f0 = p.f0;
     let c2 = 48.0 / 55.0;
-    let k2 = phi_term(a, c2 * h, 2, (55.0 / (8.0 * h)) * float::powi2(c2 * h), f0, n);
+    let k2 = phi_term(
+        a,
+        c2 * h,
+        2,
+        (55.0 / (8.0 * h)) * float::powi2(c2 * h),
+        f0,
+        n,
+    );
     let d2 = (-3025.0 / (192.0 * h * h)) * float::powi3(c2 * h);
     let k2 = add_term(k2, 1.0, a, c2 * h, 3, d2, f0, n);
     let v2 = k2.v;
@@ -242,7 +284,13 @@ fn epirk5s3(
     let k3 = phi_term(a, c3 * h, 1, (53.0 / 5.0) * (c3 * h), f0, n);
     let d3 = (-648.0 / (5.0 * h)) * float::powi2(c3 * h);
     let k3 = add_term(k3, 1.0, a, c3 * h, 2, d3, f0, n);
-    let b3 = combine2(2916.0 / (5.0 * h * h), f0, 32065.0 / (1152.0 * h * h), r2, n);
+    let b3 = combine2(
+        2916.0 / (5.0 * h * h),
+        f0,
+        32065.0 / (1152.0 * h * h),
+        r2,
+        n,
+    );
     let k3 = add_term(k3, 1.0, a, c3 * h, 3, float::powi3(c3 * h), b3, n);
     let v3 = k3.v;
     let u3 = add(u, v3, n);
@@ -252,8 +300,20 @@ fn epirk5s3(
     }
     let r3 = remainder(a, u3, u, f0, answers, first + 1, n);
     let cube = float::powi3(h);
-    let b4 = combine2(-166375.0 / (61056.0 * h * h), r2, 2187.0 / (106.0 * h * h), r3, n);
-    let b5 = combine2(499125.0 / (27136.0 * cube), r2, -2187.0 / (106.0 * cube), r3, n);
+    let b4 = combine2(
+        -166375.0 / (61056.0 * h * h),
+        r2,
+        2187.0 / (106.0 * h * h),
+        r3,
+        n,
+    );
+    let b5 = combine2(
+        499125.0 / (27136.0 * cube),
+        r2,
+        -2187.0 / (106.0 * cube),
+        r3,
+        n,
+    );
     let k = phi_term(a, h, 1, h, f0, n);
     let k = add_term(k, 1.0, a, h, 3, cube, b4, n);
     let k = add_term(k, 1.0, a, h, 4, float::powi4(h), b5, n);
@@ -261,13 +321,7 @@ fn epirk5s3(
     ended(ok & k.ok, add(u, increment, n), [0.0; 16])
 }
 
-fn exprb53s3(
-    p: Point,
-    a: &[f64],
-    answers: &[f64],
-    first: usize,
-    count: usize,
-) -> Out
+fn exprb53s3(p: Point, a: &[f64], answers: &[f64], first: usize, count: usize) -> Out
     requires { ⌜ Sized (p .n) (now a) ⌝ }
     requires { ⌜ length (now answers) ≡ 320 ⌝ }
     requires { ⌜ first ≤ 16 ⌝ }
@@ -290,7 +344,16 @@ fn exprb53s3(
     let r2 = remainder(a, u2, u, f0, answers, first, n);
     let k3 = phi_term(a, h / 2.0, 3, float::powi3(h / 2.0), r2, n);
     let s3 = after(add(u, v3base, n), 216.0 / (25.0 * h * h), k3, n);
-    let s3 = add_term(s3, 8.0 / (h * h), a, 0.9 * h, 3, float::powi3(0.9 * h), r2, n);
+    let s3 = add_term(
+        s3,
+        8.0 / (h * h),
+        a,
+        0.9 * h,
+        3,
+        float::powi3(0.9 * h),
+        r2,
+        n,
+    );
     let u3 = s3.v;
     let ok = may_ask(ok & s3.ok, u3, t + 0.9 * h);
     if count == 1 {
@@ -307,13 +370,7 @@ fn exprb53s3(
     ended(ok & k.ok, add(u, increment, n), [0.0; 16])
 }
 
-fn epirk5p1(
-    p: Point,
-    a: &[f64],
-    answers: &[f64],
-    first: usize,
-    count: usize,
-) -> Out
+fn epirk5p1(p: Point, a: &[f64], answers: &[f64], first: usize, count: usize) -> Out
     requires { ⌜ Sized (p .n) (now a) ⌝ }
     requires { ⌜ length (now answers) ≡ 320 ⌝ }
     requires { ⌜ first ≤ 16 ⌝ }
@@ -356,13 +413,7 @@ fn epirk5p1(
     ended(ok & s.ok, output, [0.0; 16])
 }
 
-fn epirk5p2(
-    p: Point,
-    a: &[f64],
-    answers: &[f64],
-    first: usize,
-    count: usize,
-) -> Out
+fn epirk5p2(p: Point, a: &[f64], answers: &[f64], first: usize, count: usize) -> Out
     requires { ⌜ Sized (p .n) (now a) ⌝ }
     requires { ⌜ length (now answers) ≡ 320 ⌝ }
     requires { ⌜ first ≤ 16 ⌝ }
@@ -411,14 +462,7 @@ fn epirk5p2(
     ended(ok & s.ok, output, [0.0; 16])
 }
 
-fn exprb32(
-    p: Point,
-    a: &[f64],
-    au: [f64; 16],
-    answers: &[f64],
-    first: usize,
-    count: usize,
-) -> Out
+fn exprb32(p: Point, a: &[f64], au: [f64; 16], answers: &[f64], first: usize, count: usize) -> Out
     requires { ⌜ Sized (p .n) (now a) ⌝ }
     requires { ⌜ length (now answers) ≡ 320 ⌝ }
     requires { ⌜ first ≤ 16 ⌝ }
@@ -449,14 +493,7 @@ fn exprb32(
     ended(ok & k13.ok & k23.ok, add(u, increment, n), error)
 }
 
-fn exprb43(
-    p: Point,
-    a: &[f64],
-    au: [f64; 16],
-    answers: &[f64],
-    first: usize,
-    count: usize,
-) -> Out
+fn exprb43(p: Point, a: &[f64], au: [f64; 16], answers: &[f64], first: usize, count: usize) -> Out
     requires { ⌜ Sized (p .n) (now a) ⌝ }
     requires { ⌜ length (now answers) ≡ 320 ⌝ }
     requires { ⌜ first ≤ 16 ⌝ }
@@ -698,17 +735,24 @@ fn hoch_ost4_4(
     }
     let f4 = shifted_stage(a, u4, au, answers, first + 2, n);
     let sum23 = add(f2, f3, n);
-    hoch_ost4_5(p, a, au, answers, first, count, ok, p1h, p2h, p1, p2, sum23, f4)
+    hoch_ost4_5(
+        p,
+        a,
+        au,
+        answers,
+        first,
+        count,
+        ok,
+        p1h,
+        p2h,
+        p1,
+        p2,
+        sum23,
+        f4,
+    )
 }
 
-fn hoch_ost4(
-    p: Point,
-    a: &[f64],
-    au: [f64; 16],
-    answers: &[f64],
-    first: usize,
-    count: usize,
-) -> Out
+fn hoch_ost4(p: Point, a: &[f64], au: [f64; 16], answers: &[f64], first: usize, count: usize) -> Out
     requires { ⌜ Sized (p .n) (now a) ⌝ }
     requires { ⌜ length (now answers) ≡ 320 ⌝ }
     requires { ⌜ first ≤ 16 ⌝ }
@@ -832,7 +876,10 @@ pub fn perform_step(
     let nonlinear0 = subtract(f0, au, n);
     let good = evaluation::all_finite(&au) & evaluation::all_finite(&nonlinear0);
     if good {
-        return finished(chosen(scheme, p, a, au, nonlinear0, answers, first, count), nonlinear0);
+        return finished(
+            chosen(scheme, p, a, au, nonlinear0, answers, first, count),
+            nonlinear0,
+        );
     }
     StepResult {
         ok: false,

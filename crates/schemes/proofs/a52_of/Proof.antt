@@ -16,8 +16,8 @@ a52-of-spec =
     (λ c κs. (c .before .before .before .before .pre, (omega arith, omega arith)))
     (λ c κs. c .before .before .before .before .before .pre .small)
     (λ c.
-        let c1 = c .before in
-        let c2 = c1 .before in
-        let c3 = c2 .before in
-        let c4 = c3 .before in
-        a52-made _ _ _ _ _ (c4 .phi-term .ensures) _ _ _ _ (c3 .phi-term2 .ensures) (c2 .phi-term3 .ensures) (c1 .phi-term4 .ensures) (c .a52 .ensures)))
+    let c1 = c .before in
+    let c2 = c1 .before in
+    let c3 = c2 .before in
+    let c4 = c3 .before in
+    a52-made _ _ _ _ _ (c4 .phi-term .ensures) _ _ _ _ (c3 .phi-term2 .ensures) (c2 .phi-term3 .ensures) (c1 .phi-term4 .ensures) (c .a52 .ensures)))

@@ -65,5 +65,5 @@ chosen-spec =
     (λ c. rw (c .before .match .keys15) (c .exprb32 .ensures))
     (λ c. rw (c .before .match .keys16) (c .exprb43 .ensures))
     (λ c.
-        let c1 = c .before in
-        none _ _ _ _ _ _ _ _ _ (up _ 15 (up _ 14 (up _ 13 (up _ 12 (up _ 11 (up _ 10 (up _ 9 (up _ 8 (up _ 7 (up _ 6 (up _ 5 (up _ 4 (up _ 3 (up _ 2 (up _ 1 (up _ 0 (from-0 _) (c1 .match .rest .0 .0 .0 .0 .0 .0 .0 .0 .0 .0 .0 .0 .0 .0 .0 .1)) (c1 .match .rest .0 .0 .0 .0 .0 .0 .0 .0 .0 .0 .0 .0 .0 .0 .1)) (c1 .match .rest .0 .0 .0 .0 .0 .0 .0 .0 .0 .0 .0 .0 .0 .1)) (c1 .match .rest .0 .0 .0 .0 .0 .0 .0 .0 .0 .0 .0 .0 .1)) (c1 .match .rest .0 .0 .0 .0 .0 .0 .0 .0 .0 .0 .0 .1)) (c1 .match .rest .0 .0 .0 .0 .0 .0 .0 .0 .0 .0 .1)) (c1 .match .rest .0 .0 .0 .0 .0 .0 .0 .0 .0 .1)) (c1 .match .rest .0 .0 .0 .0 .0 .0 .0 .0 .1)) (c1 .match .rest .0 .0 .0 .0 .0 .0 .0 .1)) (c1 .match .rest .0 .0 .0 .0 .0 .0 .1)) (c1 .match .rest .0 .0 .0 .0 .0 .1)) (c1 .match .rest .0 .0 .0 .0 .1)) (c1 .match .rest .0 .0 .0 .1)) (c1 .match .rest .0 .0 .1)) (c1 .match .rest .0 .1)) (c1 .match .rest .1)) (c .ended .ensures)))
+    let c1 = c .before in
+    none _ _ _ _ _ _ _ _ _ (up _ 15 (up _ 14 (up _ 13 (up _ 12 (up _ 11 (up _ 10 (up _ 9 (up _ 8 (up _ 7 (up _ 6 (up _ 5 (up _ 4 (up _ 3 (up _ 2 (up _ 1 (up _ 0 (from-0 _) (c1 .match .rest .0 .0 .0 .0 .0 .0 .0 .0 .0 .0 .0 .0 .0 .0 .0 .1)) (c1 .match .rest .0 .0 .0 .0 .0 .0 .0 .0 .0 .0 .0 .0 .0 .0 .1)) (c1 .match .rest .0 .0 .0 .0 .0 .0 .0 .0 .0 .0 .0 .0 .0 .1)) (c1 .match .rest .0 .0 .0 .0 .0 .0 .0 .0 .0 .0 .0 .0 .1)) (c1 .match .rest .0 .0 .0 .0 .0 .0 .0 .0 .0 .0 .0 .1)) (c1 .match .rest .0 .0 .0 .0 .0 .0 .0 .0 .0 .0 .1)) (c1 .match .rest .0 .0 .0 .0 .0 .0 .0 .0 .0 .1)) (c1 .match .rest .0 .0 .0 .0 .0 .0 .0 .0 .1)) (c1 .match .rest .0 .0 .0 .0 .0 .0 .0 .1)) (c1 .match .rest .0 .0 .0 .0 .0 .0 .1)) (c1 .match .rest .0 .0 .0 .0 .0 .1)) (c1 .match .rest .0 .0 .0 .0 .1)) (c1 .match .rest .0 .0 .0 .1)) (c1 .match .rest .0 .0 .1)) (c1 .match .rest .0 .1)) (c1 .match .rest .1)) (c .ended .ensures)))

@@ -17,8 +17,8 @@ epirk4s3-b-spec =
     (λ c κs. (c .before .before .before .before .before .before .pre .0, (omega arith, omega arith)))
     (λ c κs. c .before .before .before .before .before .before .before .pre)
     (λ c.
-        let c1 = c .before in
-        let c2 = c1 .before in
-        let c3 = c2 .before in
-        let c4 = c3 .before in
-        rw (c3 .phi-term .ensures, c1 .phi-term2 .ensures, c4 .powi2 .ensures, c2 .powi22 .ensures) at (c .epirk4s3 .ensures)))
+    let c1 = c .before in
+    let c2 = c1 .before in
+    let c3 = c2 .before in
+    let c4 = c3 .before in
+    rw (c3 .phi-term .ensures, c1 .phi-term2 .ensures, c4 .powi2 .ensures, c2 .powi22 .ensures) at (c .epirk4s3 .ensures)))
