@@ -2,7 +2,9 @@
 // there is a history and how many answers there are, a byte each; then time, step, state, derivative,
 // Jacobian, history and answers as doubles. The reply is byte 0 (refused by 6); or 1, the asked time and
 // state; or 2, the candidate, whether there is an error, a byte, the error, and f0 - J u.
-use methods::{Kind, Point, StepResult};
+use methods::Kind;
+use methods::Point;
+use methods::StepResult;
 ghost use Prim.Native.Nat.{_+_, _≤_};
 ghost use mathlib.Core.Path.{_≡_};
 ghost use lib.ListN.{length};
@@ -123,7 +125,11 @@ fn exchange(scheme: u8, n: usize, held: bool, count: usize, a: &mut [f64], answe
         held,
         previous,
     };
-    reply(scheme, schemes::perform_step(scheme, p, a, answers, 0, count), n);
+    reply(
+        scheme,
+        schemes::perform_step(scheme, p, a, answers, 0, count),
+        n,
+    );
 }
 
 // Lends room for a Jacobian and answers.
@@ -147,7 +153,13 @@ fn record() -> bool {
     let n = head[1];
     let held = head[2];
     let count = head[3];
-    if (n == 0) | (n > 16) | (count > 4) {
+    if n == 0 {
+        return false;
+    }
+    if n > 16 {
+        return false;
+    }
+    if count > 4 {
         return false;
     }
     replay(scheme, n as usize, held == 1, count as usize);
