@@ -189,7 +189,7 @@ no-tie o c i e h l t = go (decLe e i)
     go (yes k) =
         let d = i - e in
         let w : o * 2 ^ d * 2 ^ e ≡ c * 2 ^ e =
-            mul-assoc o (2 ^ d) (2 ^ e) ∙ ap (λ (x : ℕ). o * x) (sym (pow-add 2 d e) ∙ ap (λ (x : ℕ). 2 ^ x) (sub-add-cancel k)) ∙ t in
+        mul-assoc o (2 ^ d) (2 ^ e) ∙ ap (λ (x : ℕ). o * x) (sym (pow-add 2 d e) ∙ ap (λ (x : ℕ). 2 ^ x) (sub-add-cancel k)) ∙ t in
         let v : o * 2 ^ d ≤ c = le-of-mul-le-mul-right (le-of-eq w) (pow-pos e) in
         let u : o * 1 ≤ o * 2 ^ d = mul-le-mul-left o (pow-pos d) in
         omega (arith, mul-one o)

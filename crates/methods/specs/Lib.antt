@@ -4,5 +4,4 @@ pub mod Phi
 pub mod Parts
 pub mod Pass
 pub mod Schemes
-pub mod Stages
 pub mod Step

@@ -1,14 +1,13 @@
 -- What the code's parts work out, where it is no line of the Rust: contracts cite it. Definitions only.
 use Prim.Native.Nat.{ℕ, _-_}
 use mathlib.Core.Bool.{_&&_}
-use mathlib.Core.List.{List, [], _∷_}
+use mathlib.Core.List.{List}
 use lib.Ieee.{Float}
 use Rattle.loops.specs.Loop.{mat}
 use Rattle.matrix.specs.Matrix.{at, admitted, exponential}
 use Rattle.matrix.specs.Vector.{vec}
 use Rattle.methods.specs.declared.Action.{Action}
-use Rattle.methods.specs.Numbers.{minus, decimal, minusDecimal}
-use Rattle.methods.specs.Vectors.{axpy, combine}
+use Rattle.methods.specs.Vectors.{axpy}
 use Rattle.methods.specs.Phi.{checked, augmentedEntry}
 
 -- the phi action whose augmented matrix has this size
@@ -20,14 +19,3 @@ phiInto n a scaleA input size =
 -- sum plus factor times k, under both checks
 unfoldable pub more : ℕ → Action → Float → Action → Action
 more n sum factor k = record { ok = sum .ok && k .ok; v = axpy n (sum .v) factor (k .v) }
-
--- a52 and a54 of phi terms that are already worked out
-unfoldable pub a52Of : ℕ → Action → Action → Action → Action → Action
-a52Of n p2h p3 p2 p3h =
-    record {
-      ok = p2h .ok && p3 .ok && p2 .ok && p3h .ok;
-      v = combine n ((decimal 5 1, p2h .v) ∷ (minus 1, p3 .v) ∷ (decimal 25 2, p2 .v) ∷ (minusDecimal 5 1, p3h .v) ∷ []);
-    }
-
-unfoldable pub a54Of : ℕ → Action → Action → Action
-a54Of n p2h inner = record { ok = p2h .ok && inner .ok; v = combine n ((decimal 25 2, p2h .v) ∷ (minus 1, inner .v) ∷ []) }

@@ -85,8 +85,8 @@ fn wanted(scheme: u8, n: usize, attempt: Attempt) -> usize
 {
     match attempt {
         Attempt::None => 0,
-        Attempt::Supplied => methods::questions(scheme),
-        Attempt::Differenced => n + methods::questions(scheme),
+        Attempt::Supplied => schemes::questions(scheme),
+        Attempt::Differenced => n + schemes::questions(scheme),
     }
 }
 
@@ -368,7 +368,7 @@ fn stepped_from(s: Session, answers: &[f64], a: &mut [f64]) -> methods::StepResu
     let state = s.state;
     let f0 = s.derivative;
     engine::jacobian_into(state, f0, answers, n, &mut *a);
-    methods::perform_step(s.scheme, point_of(s), &*a, answers, n, s.count - n)
+    schemes::perform_step(s.scheme, point_of(s), &*a, answers, n, s.count - n)
 }
 
 fn differencing(s: Session, answers: &[f64]) -> methods::StepResult
@@ -413,7 +413,7 @@ fn supplied(s: Session) -> methods::StepResult
     let size = n * n;
     let jacobian = s.jacobian;
     let answers = s.answers;
-    methods::perform_step(s.scheme, point_of(s), &jacobian[..size], &answers, 0, s.count)
+    schemes::perform_step(s.scheme, point_of(s), &jacobian[..size], &answers, 0, s.count)
 }
 
 fn run_pass(s: Session) -> methods::StepResult

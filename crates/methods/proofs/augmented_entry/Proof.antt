@@ -13,32 +13,32 @@ augmented-entry-spec =
     tie.close
     (tie.spec
     (λ c.
-        let c2 = c .before .before in
-        omega (arith, c2 .pre, row-small (c2 .args .i) (c2 .args .n) 16 (omega arith) (omega (arith, c2 .pre))))
+    let c2 = c .before .before in
+    omega (arith, c2 .pre, row-small (c2 .args .i) (c2 .args .n) 16 (omega arith) (omega (arith, c2 .pre))))
     (λ c.
-        let c2 = c .before .before in
-        omega (arith, c2 .pre, row-small (c2 .args .i) (c2 .args .n) 16 (omega arith) (omega (arith, c2 .pre))))
+    let c2 = c .before .before in
+    omega (arith, c2 .pre, row-small (c2 .args .i) (c2 .args .n) 16 (omega arith) (omega (arith, c2 .pre))))
     (λ c.
-        let c2 = c .before .before in
-        omega (arith, c2 .pre, row-small (c2 .args .i) (c2 .args .n) 16 (omega arith) (omega (arith, c2 .pre))))
+    let c2 = c .before .before in
+    omega (arith, c2 .pre, row-small (c2 .args .i) (c2 .args .n) 16 (omega arith) (omega (arith, c2 .pre))))
     (λ c.
-        let c3 = c .before .before .before in
-        omega (arith, c3 .pre, row-small (c3 .args .i) (c3 .args .n) 16 (omega arith) (omega (arith, c3 .pre))))
+    let c3 = c .before .before .before in
+    omega (arith, c3 .pre, row-small (c3 .args .i) (c3 .args .n) 16 (omega arith) (omega (arith, c3 .pre))))
     (λ c. omega (arith, c .before .before .before .pre))
     (λ c. omega (arith, c .before .before .before .pre))
     (λ c. omega (arith, c .before .pre))
     (λ c.
-        let c3 = c .before .before .before in
-        rw (lt-ltb (c3 .args .i) (c3 .args .n) (omega arith), lt-ltb (c3 .args .j) (c3 .args .n) (omega arith)))
+    let c3 = c .before .before .before in
+    rw (lt-ltb (c3 .args .i) (c3 .args .n) (omega arith), lt-ltb (c3 .args .j) (c3 .args .n) (omega arith)))
     (λ c.
-        let c3 = c .before .before .before in
-        rw (lt-ltb (c3 .args .i) (c3 .args .n) (omega arith), le-ltb (c3 .args .j) (c3 .args .n) (omega arith), eq-eqb (c3 .args .j) (c3 .args .n) (omega arith)))
+    let c3 = c .before .before .before in
+    rw (lt-ltb (c3 .args .i) (c3 .args .n) (omega arith), le-ltb (c3 .args .j) (c3 .args .n) (omega arith), eq-eqb (c3 .args .j) (c3 .args .n) (omega arith)))
     (λ c.
-        let c3 = c .before .before .before in
-        rw (lt-ltb (c3 .args .i) (c3 .args .n) (omega arith), le-ltb (c3 .args .j) (c3 .args .n) (omega arith), ne-eqb (c3 .args .j) (c3 .args .n) (omega arith)))
+    let c3 = c .before .before .before in
+    rw (lt-ltb (c3 .args .i) (c3 .args .n) (omega arith), le-ltb (c3 .args .j) (c3 .args .n) (omega arith), ne-eqb (c3 .args .j) (c3 .args .n) (omega arith)))
     (λ c.
-        let c2 = c .before .before in
-        rw (le-ltb (c2 .args .i) (c2 .args .n) (omega arith), eq-eqb (c2 .args .j) (c2 .args .i + 1) (omega arith)))
+    let c2 = c .before .before in
+    rw (le-ltb (c2 .args .i) (c2 .args .n) (omega arith), eq-eqb (c2 .args .j) (c2 .args .i + 1) (omega arith)))
     (λ c.
-        let c2 = c .before .before in
-        rw (le-ltb (c2 .args .i) (c2 .args .n) (omega arith), ne-eqb (c2 .args .j) (c2 .args .i + 1) (omega arith))))
+    let c2 = c .before .before in
+    rw (le-ltb (c2 .args .i) (c2 .args .n) (omega arith), ne-eqb (c2 .args .j) (c2 .args .i + 1) (omega arith))))

@@ -28,6 +28,6 @@ exp-action-spec =
     (λ c. mul-le-mul (c .before .before .before .before .pre .small) (c .before .before .before .before .pre .small))
     (λ c. sym (length-take-le _ _ (mul-le-mul (c .before .before .before .before .before .pre .small) (c .before .before .before .before .before .pre .small))))
     (λ c κs.
-        let c5 = c .before .before .before .before .before in
-        (c5 .pre, (length-take-le _ _ (mul-le-mul (c5 .pre .small) (c5 .pre .small)), length-take-le _ _ (mul-le-mul (c5 .pre .small) (c5 .pre .small)))))
+    let c5 = c .before .before .before .before .before in
+    (c5 .pre, (length-take-le _ _ (mul-le-mul (c5 .pre .small) (c5 .pre .small)), length-take-le _ _ (mul-le-mul (c5 .pre .small) (c5 .pre .small)))))
     (λ c. c .before .before .exp-into3 .ensures))

@@ -14,10 +14,10 @@ exp-into-spec =
     (λ c. search needs)
     (λ c. search needs)
     (λ c.
-        let c2 = c .before .before in
-        let c5 = c2 .before .before .before in
-        let c10 = c5 .before .before .before .before .before in
-        exp-ok _ _ _ _ _ _ _ _ _ (c10 .scale-matrix .ensures) (c5 .matrix-exp .ensures) (c2 .if1 .taken) (c .mat-vec .ensures))
+    let c2 = c .before .before in
+    let c5 = c2 .before .before .before in
+    let c10 = c5 .before .before .before .before .before in
+    exp-ok _ _ _ _ _ _ _ _ _ (c10 .scale-matrix .ensures) (c5 .matrix-exp .ensures) (c2 .if1 .taken) (c .mat-vec .ensures))
     (λ c. search needs)
     (λ c. search needs)
     (λ c. exp-bad _ _ _ _ _ _ _ _ (c .before .before .before .before .before .before .before .before .scale-matrix .ensures) (c .before .before .before .matrix-exp .ensures) (c .if1 .left)))

@@ -14,10 +14,10 @@ phi-into-spec =
     (λ c. search needs)
     (λ c. search needs)
     (λ c.
-        let c2 = c .before .before in
-        let c5 = c2 .before .before .before in
-        let c10 = c5 .before .before .before .before .before in
-        phi-ok _ _ _ _ _ _ _ _ _ _ (c10 .augment .ensures) (c5 .matrix-exp .ensures) (c2 .if1 .taken) (c .last-column .ensures))
+    let c2 = c .before .before in
+    let c5 = c2 .before .before .before in
+    let c10 = c5 .before .before .before .before .before in
+    phi-ok _ _ _ _ _ _ _ _ _ _ (c10 .augment .ensures) (c5 .matrix-exp .ensures) (c2 .if1 .taken) (c .last-column .ensures))
     (λ c. search needs)
     (λ c. search needs)
     (λ c. phi-bad _ _ _ _ _ _ _ _ _ (c .before .before .before .before .before .before .before .before .augment .ensures) (c .before .before .before .matrix-exp .ensures) (c .if1 .left)))

@@ -33,8 +33,8 @@ scale-matrix-spec =
     (λ c. omega arith)
     (λ c. omega arith)
     (λ c.
-        let c2 = c .before .before in
-        let c3 = c2 .before in
-        (omega arith, omega arith, simp length-set (omega arith), fill-call nan _ _ _ _ _ (c2 .loop .inv .3) (omega arith) (scale-at _ (c3 .args .a .now) (c3 .args .n) (c2 .loop .p))))
+    let c2 = c .before .before in
+    let c3 = c2 .before in
+    (omega arith, omega arith, simp length-set (omega arith), fill-call nan _ _ _ _ _ (c2 .loop .inv .3) (omega arith) (scale-at _ (c3 .args .a .now) (c3 .args .n) (c2 .loop .p))))
     (λ c. omega arith)
     (λ c. mat-all _ _ _ _ _ (c .before .loop .inv .3) (omega arith) (omega arith)))

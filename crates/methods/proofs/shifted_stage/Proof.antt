@@ -13,7 +13,7 @@ shifted-stage-spec =
     (λ c κs. c .before .before .before .before .pre .0 .small)
     (λ c κs. c .before .before .before .before .before .pre .0 .small)
     (λ c.
-        let c1 = c .before in
-        let c2 = c1 .before in
-        let c3 = c2 .before in
-        rw (c .axpy2 .ensures, c1 .axpy .ensures, c2 .mat-vec .ensures, c3 .evaluated .ensures)))
+    let c1 = c .before in
+    let c2 = c1 .before in
+    let c3 = c2 .before in
+    rw (c .axpy2 .ensures, c1 .axpy .ensures, c2 .mat-vec .ensures, c3 .evaluated .ensures)))
