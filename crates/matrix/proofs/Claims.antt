@@ -1,30 +1,27 @@
 -- The claims of specs/Claims.antt: the series stops at term 15 or sooner, [0.5] reaches 15, and s is the least. Assumes nothing.
 use mathlib.Core.Path.{_≡_, refl, sym, ap, _∙_, subst}
-use mathlib.Core.List.{List, [], _∷_, map}
+use mathlib.Core.List.{List}
 use mathlib.Core.Logic.{inl, inr}
 use Prim.Native.Nat.{ℕ, zero, suc, _+_, _*_, _^_, _≤_, _<_, zero-le}
-use native.Mathlib.Nat.{le-trans, le-refl, le-of-eq, le-suc, eq-or-lt-of-le, not-le-of-lt, zero-lt-suc, mul-one, mul-comm, mul-assoc, mul-left-comm, mul-right-comm, mul-le-mul-right, le-of-suc-le-suc, le-of-mul-le-mul-right, le-div-iff-mul-le, div-mul-le-self}
-use native.Mathlib.Omega.{arith}
-use mathlib.Core.Bool.{Bool, true, false, _&&_, true≢false}
-use lib.Dec.{T, leb, leb→le}
-use lib.Pow.{pow-pos}
+use native.Mathlib.Nat.{le-trans, le-refl, le-suc, eq-or-lt-of-le, not-le-of-lt, zero-lt-suc, mul-comm, mul-assoc, mul-left-comm, mul-right-comm, mul-le-mul-right, le-of-suc-le-suc, le-of-mul-le-mul-right, le-div-iff-mul-le, div-mul-le-self}
+use mathlib.Core.Bool.{true, false, _&&_, true≢false}
+use lib.Dec.{T, leb→le}
 use lib.Arith.{digits-lt}
 use lib.Count.{trailingZeros}
-use lib.ListN.{length}
-use lib.IntN.{pos}
 use lib.Ieee.{Float, nan, inf, fin, binary64, up, down, fits, add, mul, div, le, lt, eq, ofInt, round, size, units, odd, span, climb, sum, isNan, ofBits, ofFields}
-use lib.Ieee.Fits.{down-pos, and-l, and-r}
+use lib.Ieee.Fits.{down-pos}
 use lib.Ieee.Scale
-use Rattle.loops.specs.Loop.{iter, every, from, tab, mat, _!_}
+use Rattle.loops.specs.Loop.{iter, every, from, tab, mat}
 use Rattle.float.specs.Arith.{_⊘_, zero+, limit, finite, abs, larger, sumOf, most}
 use Rattle.float.proofs.Total.{total}
-use Rattle.matrix.specs.Matrix.{at, identity, matMul, divAll, addAll, maxAbs, rowSum, norm, admitted, enough, least, squarings, power, scaled, nextTerm, small, series, taylor, squared, exponential}
+use Rattle.matrix.specs.Matrix.{at, identity, matMul, divAll, addAll, maxAbs, rowSum, norm, admitted, enough, least, squarings, power, scaled, nextTerm, small, series, taylor, exponential}
 use Rattle.matrix.specs.Claims.{Admitted, StopsAt15, LimitUnmet, Reaches15, LeastScale, Scales, TopRow}
+use Rattle.matrix.proofs.Bools.{false≢true, and-left, every-at}
 use Rattle.matrix.proofs.Powers.{norm-limit, squarings-least, squarings-enough, squarings-room}
-use Rattle.matrix.proofs.Row.{On64, mag64, unit64, zero-mag}
+use Rattle.matrix.proofs.RowSums.{On64, mag64, unit64}
 use Rattle.matrix.proofs.Terms.{Rows, quotient, total-ap}
 use Rattle.matrix.proofs.Stop.{Pos64, larger-pos, zero-pos, fifteen}
-use Rattle.matrix.proofs.Scaled.{β64, abs-sum, scaled-row}
+use Rattle.matrix.proofs.Scaling.{β64, abs-sum, scaled-row}
 
 -- ---- 2 ^ s is at least twice the norm, in units
 twice : (a d X U z : ℕ) → 0 < d → a * U ≡ X * d → 2 * a ≤ z * d → X * 2 ≤ z * U
@@ -42,26 +39,15 @@ enough→units (fin true m e) s p h = absurd (true≢false (p .0))
 enough→units (fin false m e) s p h = twice (m * up e) (down e) (mag64 (fin false m e)) unit64 (2 ^ s) (down-pos e) (p .1) (leb→le (2 * (m * up e)) (2 ^ s * down e) (subst T (sym h) tt))
 
 -- ---- the rows that are admitted
-same-finite : (x : Float) → T (finite x) → T (lib.Ieee.Scale.finite x)
+same-finite : (x : Float) → finite x ≡ true → T (lib.Ieee.Scale.finite x)
 unfolding finite
-same-finite nan t = absurd t
-same-finite (inf s) t = absurd t
-same-finite (fin s m e) t = tt
-
-every-at : (n : ℕ) (f : ℕ → Bool) → every n f ≡ true → (i : ℕ) → i < n → T (f i)
-unfolding every
-every-at zero f h i l = absurd (not-le-of-lt l zero-le)
-every-at (suc n) f h i l =
-    let t : T (every n f && f n) = subst T (sym h) tt in
-    elim (eq-or-lt-of-le (le-of-suc-le-suc l)) [ inl e ↦ subst (λ (z : ℕ). T (f z)) (sym e) (and-r (every n f) (f n) t) | inr q ↦ every-at n f (all (every n f) (and-l (every n f) (f n) t)) i q ]
-  where
-    all : (b : Bool) → T b → b ≡ true
-    all true u = refl
-    all false u = absurd u
+same-finite nan h = false≢true h
+same-finite (inf s) h = false≢true h
+same-finite (fin s m e) h = tt
 
 row-finite : (m : List Float) (n i : ℕ) → admitted m n ≡ true → i < n → T (lib.Ieee.Scale.finite (rowSum m n i))
 unfolding admitted
-row-finite m n i h l = same-finite (rowSum m n i) (and-l (finite (rowSum m n i)) (le (rowSum m n i) limit) (every-at n _ h i l))
+row-finite m n i h l = same-finite (rowSum m n i) (and-left (finite (rowSum m n i)) (le (rowSum m n i) limit) (every-at n (λ i. finite (rowSum m n i) && le (rowSum m n i) limit) h i l))
 
 most-ge : (f : ℕ → Float) (k : ℕ) → ((j : ℕ) → j < k → Pos64 (f j)) → Pos64 (most k f zero+) × ((j : ℕ) → j < k → mag64 (f j) ≤ mag64 (most k f zero+))
 unfolding most

@@ -1,12 +1,13 @@
+pub mod Bools
 pub mod Vectors
-pub mod Rows
+pub mod Runs
 pub mod Products
 pub mod Sizes
 pub mod Powers
 pub mod Series
-pub mod Row
+pub mod RowSums
 pub mod Terms
 pub mod Stop
-pub mod Scaled
+pub mod Scaling
 pub mod Claims
 pub mod Whole

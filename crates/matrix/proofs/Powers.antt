@@ -1,87 +1,37 @@
 -- Powers of two as doubles, and the least one that is enough. Assumes nothing.
 use Prim.Native.Nat.{ℕ, zero, suc, _+_, _*_, _^_, _<_, _≤_}
-use mathlib.Core.Path.{_≡_, refl, sym, ap, _∙_, subst}
-use mathlib.Core.Bool.{Bool, true, false, not, _&&_, _||_, Bool·beq, cond}
-use native.Mathlib.Nat.{pow-suc, add-suc, suc-add, mul-assoc, mul-right-comm, add-zero, not-suc-le-zero}
+use mathlib.Core.Path.{_≡_, refl, sym, ap, _∙_}
+use mathlib.Core.Bool.{Bool, true, false, not, _&&_, _||_, cond}
+use mathlib.Core.List.{List}
+use native.Mathlib.Nat.{pow-suc, add-suc, suc-add, mul-right-comm, add-zero}
 use native.Mathlib.Numerals.{add-one}
 use native.Mathlib.Decide.{ℕ-discrete, decLe, decLt}
 use borrow.Author.Count.{below-more}
 use native.Mathlib.Omega.{arith}
-use lib.Dec.{T, eqb, ltb, leb}
-use lib.IntN.{ℤ, pos, negsuc}
-use lib.Ieee.{Float, nan, inf, fin, binary64, lt, le, eq, isNan, mul, round, size, units, odd, span, climb, ofBits, ofFields, up, down, fits}
+use lib.Dec.{ltb, leb}
+use lib.IntN.{negsuc}
+use lib.Ieee.{Float, nan, inf, fin, binary64, lt, le, eq, isNan, mul, round, size, units, odd, span, climb, ofBits, ofFields, up, down}
 use lib.Count.{trailingZeros}
-use borrow.Author.Tests.{ltb-true, ltb-false, leb-true, leb-false, lt-ltb, le-ltb, le-leb, lt-leb, eqb-true}
-use Rattle.loops.specs.Loop.{every}
+use borrow.Author.Tests.{not-true, not-false, ltb-true, lt-ltb, le-ltb, le-leb, lt-leb, eqb-true}
+use Rattle.loops.specs.Loop.{every, from, tab, _!_}
+use Rattle.loops.proofs.Loops.{tab-at}
 use Rattle.float.specs.Arith.{_⊗_, two, limit, finite, larger, zero+, most}
 use Rattle.matrix.specs.Matrix.{enough, least, squarings, power, norm, admitted, rowSum}
-use mathlib.Core.List.{List}
+use Rattle.matrix.proofs.Bools.{false≢true, and-left, and-right}
 
 -- half of 2 ^ s
 unfoldable pub halfOf : ℕ → Float
 halfOf zero = fin false 1 (negsuc 0)
 halfOf (suc k) = power k
 
--- ---- a table by one computed test
+-- ---- each is twice the one before it
 
-same : Float → Float → Bool
-same (fin false m (pos k)) (fin false n (pos l)) = eqb m n && eqb k l
-same (fin false m (pos k)) (fin false n (negsuc l)) = false
-same (fin false m (pos k)) (fin true n e) = false
-same (fin false m (pos k)) nan = false
-same (fin false m (pos k)) (inf t) = false
-same (fin false m (negsuc k)) y = false
-same (fin true m e) y = false
-same nan y = false
-same (inf s) y = false
-
-and-left : (a b : Bool) → (a && b) ≡ true → a ≡ true
-unfolding _&&_
-and-left true b e = refl
-and-left false b e = e
-
-and-right : (a b : Bool) → (a && b) ≡ true → b ≡ true
-unfolding _&&_
-and-right true b e = e
-and-right false b e = absurd (subst T (sym e) tt)
-
-no' : {A : Type 0} → false ≡ true → A
-no' e = absurd (subst T (sym e) tt)
-
-same-eq : (x y : Float) → same x y ≡ true → x ≡ y
-unfolding same
-same-eq (fin false m (pos k)) (fin false n (pos l)) h =
-    let a : m ≡ n = eqb-true m n (and-left (eqb m n) (eqb k l) h) in
-    let b : k ≡ l = eqb-true k l (and-right (eqb m n) (eqb k l) h) in
-    cc
-same-eq (fin false m (pos k)) (fin false n (negsuc l)) h = no' h
-same-eq (fin false m (pos k)) (fin true n e) h = no' h
-same-eq (fin false m (pos k)) nan h = no' h
-same-eq (fin false m (pos k)) (inf t) h = no' h
-same-eq (fin false m (negsuc k)) y h = no' h
-same-eq (fin true m e) y h = no' h
-same-eq nan y h = no' h
-same-eq (inf s) y h = no' h
-
-all : ℕ → (ℕ → Bool) → Bool
-all zero p = true
-all (suc n) p = all n p && p n
-
-all-at : (n : ℕ) (p : ℕ → Bool) → all n p ≡ true → (j : ℕ) → j < n → p j ≡ true
-unfolding all
-all-at zero p h j l = absurd (not-suc-le-zero l)
-all-at (suc n) p h j l = go (ℕ-discrete j n) (λ k. all-at n p (and-left (all n p) (p n) h) j k)
-  where
-    go : Dec (j ≡ n) → (j < n → p j ≡ true) → p j ≡ true
-    go (yes e) ih = rw e (and-right (all n p) (p n) h)
-    go (no ne) ih = ih (omega arith)
-
-table : all 34 (λ s. same (halfOf s ⊗ two) (halfOf (suc s))) ≡ true
-unfolding all same halfOf mul round size units odd span climb trailingZeros ofBits ofFields _&&_
+table : tab 34 (λ s. halfOf s ⊗ two) ≡ tab 34 (λ s. halfOf (suc s))
+unfolding tab from halfOf mul round size units odd span climb trailingZeros ofBits ofFields
 table = refl
 
-pub half-step : (s : ℕ) → s < 34 → halfOf s ⊗ two ≡ halfOf (suc s)
-half-step s h = same-eq _ _ (all-at 34 (λ s. same (halfOf s ⊗ two) (halfOf (suc s))) table s h)
+half-step : (s : ℕ) → s < 34 → halfOf s ⊗ two ≡ halfOf (suc s)
+half-step s h = sym (tab-at 34 (λ s. halfOf s ⊗ two) s h) ∙ ap (λ l. l ! s) table ∙ tab-at 34 (λ s. halfOf (suc s)) s h
 
 -- ---- the test of the code is the test of the definition
 
@@ -90,15 +40,14 @@ unfolding halfOf ofBits ofFields odd trailingZeros
 half-zero = refl
 
 not-leb : (a b c d : ℕ) → (a ≤ b → d ≤ c) → (b < a → c < d) → ltb c d ≡ not (leb a b)
-unfolding not
 not-leb a b c d h k = go (decLe a b)
   where
     go : Dec (a ≤ b) → ltb c d ≡ not (leb a b)
     go (yes l) = rw (le-leb a b l, le-ltb c d (h l))
     go (no l) = let g : b < a = omega arith in rw (lt-leb a b g, lt-ltb c d (k g))
 
-pub test : (s : ℕ) (x : Float) → lt (halfOf s) x ≡ not (enough x s)
-unfolding halfOf lt enough not
+test : (s : ℕ) (x : Float) → lt (halfOf s) x ≡ not (enough x s)
+unfolding halfOf lt enough
 test zero nan = refl
 test (suc k) nan = refl
 test zero (inf true) = refl
@@ -112,16 +61,6 @@ test (suc k) (fin false m e) =
     let one : 1 * 2 ^ k ≡ 2 ^ k = omega arith in
     let twice : 2 ^ suc k * down e ≡ 2 ^ k * down e * 2 = rw pow-suc (mul-right-comm (2 ^ k) 2 (down e)) in
     rw one (not-leb (2 * (m * up e)) (2 ^ suc k * down e) (2 ^ k * down e) (m * up e * 1) (λ h. omega arith) (λ h. omega arith))
-
-not-true : (b : Bool) → not b ≡ true → b ≡ false
-unfolding not
-not-true true h = no' h
-not-true false h = refl
-
-not-false : (b : Bool) → not b ≡ false → b ≡ true
-unfolding not
-not-false true h = refl
-not-false false h = no' (sym h)
 
 -- ---- the loop
 
@@ -137,16 +76,15 @@ unfolding halfOf ofBits ofFields odd trailingZeros
 half-limit = refl
 
 or-case : {P : Type 0} (a b : Bool) → (a || b) ≡ true → (a ≡ true → P) → (b ≡ true → P) → P
-unfolding _||_
 or-case true b h f g = f refl
 or-case false b h f g = g h
 
 not-above : (x : Float) → lt limit x ≡ true → le x limit ≡ true → ⊥
-unfolding lt le eq ofBits ofFields odd trailingZeros not _||_ _&&_
-not-above nan h k = no' h
-not-above (inf true) h k = no' h
-not-above (inf false) h k = no' k
-not-above (fin true m e) h k = no' h
+unfolding lt le eq ofBits ofFields odd trailingZeros
+not-above nan h k = false≢true h
+not-above (inf true) h k = false≢true h
+not-above (inf false) h k = false≢true k
+not-above (fin true m e) h k = false≢true h
 not-above (fin false m e) h k =
     or-case _ _ k
     (λ q. omega (arith, ltb-true (m * up e * 1) (1 * 2 ^ 31 * down e) q, ltb-true (1 * 2 ^ 31 * down e) (m * up e * 1) h))
@@ -210,7 +148,7 @@ unfolding squarings
 squarings-least x t h = least-below 32 0 t (enough x) (omega arith) h
 
 pub squarings-enough : (x : Float) → le x limit ≡ true → enough x (squarings x) ≡ true
-unfolding squarings not
+unfolding squarings
 squarings-enough x h = least-passes 32 0 (enough x) (go (enough x 32) refl)
   where
     go : (b : Bool) → enough x 32 ≡ b → enough x 32 ≡ true

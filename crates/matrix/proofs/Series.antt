@@ -1,13 +1,12 @@
 -- One term divided and added, and the loop that adds terms until one is small. Assumes nothing.
 use Prim.Native.Nat.{ℕ, zero, suc, _+_, _-_, _*_, _/_, _%_, _<_, _≤_}
-use mathlib.Core.Path.{_≡_, refl, sym, ap, _∙_, subst}
-use mathlib.Core.Bool.{Bool, true, false, cond, not}
+use mathlib.Core.Path.{_≡_, refl, sym, ap, _∙_}
+use mathlib.Core.Bool.{Bool, true, false}
 use mathlib.Core.List.{List}
 use native.Mathlib.Numerals.{add-one}
 use native.Mathlib.Nat.{le-refl, le-trans}
 use native.Mathlib.Omega.{arith}
-use borrow.Author.Tests.{not-true, not-false}
-use lib.Ieee.{Float, nan, binary64, le, ofInt}
+use lib.Ieee.{Float, binary64, le, ofInt}
 use lib.IntN.{pos}
 use lib.ListN.{length, set}
 use Rattle.loops.specs.Loop.{stores, tab, _!_}
@@ -15,9 +14,9 @@ use Rattle.loops.proofs.Loops.{length-tab, tab-at, stores-step0}
 use Rattle.loops.proofs.Stores.{tab-ext}
 use Rattle.float.specs.Arith.{_⊕_, _⊗_, _⊘_, zero+, one, epsilon, abs, larger, most}
 use Rattle.float.proofs.Sums.{most-step, most-end}
-use Rattle.matrix.specs.Matrix.{identity, matMul, divAll, addAll, maxAbs, nextTerm, small, Series, series, taylor, scaled, power, squared, norm, admitted, squarings, exponential}
-use Rattle.matrix.specs.Calls.{Normed, Scaled, Added, Turned, Summed, Filled}
-use Rattle.matrix.proofs.Rows.{run-all, ahead, most-ext}
+use Rattle.matrix.specs.Matrix.{identity, matMul, divAll, addAll, maxAbs, nextTerm, small, series, taylor, scaled, power, squared}
+use Rattle.matrix.specs.Calls.{Added, Turned, Summed}
+use Rattle.matrix.proofs.Runs.{run-all, ahead, most-ext}
 use Rattle.matrix.proofs.Products.{even-end, odd-end}
 
 -- ---- a term divided and added

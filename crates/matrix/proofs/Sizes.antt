@@ -1,21 +1,15 @@
 -- Absolute values and the larger of two without branches. Assumes nothing.
-use Prim.Native.Nat.{ℕ, zero, suc, _+_, _*_, _<_, _≤_}
-use mathlib.Core.Path.{_≡_, refl, sym, ap, _∙_, subst}
-use mathlib.Core.Bool.{Bool, true, false, cond, _&&_, _||_, Bool·beq}
+use Prim.Native.Nat.{ℕ, zero, suc, _+_, _*_}
+use mathlib.Core.Path.{_≡_, refl, _∙_}
+use mathlib.Core.Bool.{Bool, true, false, _||_, Bool·beq}
 use native.Mathlib.Omega.{arith}
 use lib.Count.{trailingZeros}
-use lib.Dec.{T, eqb}
+use lib.Dec.{eqb}
 use lib.Ieee.{Float, nan, inf, fin, binary64, lt, eq, neg, isNan, fits, ofBits, ofFields, odd, up, down}
 use borrow.Author.Tests.{ltb-true, eqb-true}
 use Rattle.float.specs.Arith.{zero+, one, abs, larger, most}
 use Rattle.float.proofs.Floats.{abs-neg, abs-zero, abs-pos}
-
-false≢true : {A : Type 0} → false ≡ true → A
-false≢true e = absurd (subst T (sym e) tt)
-
-and-left : (a b : Bool) → (a && b) ≡ true → a ≡ true
-and-left true b e = refl
-and-left false b e = e
+use Rattle.matrix.proofs.Bools.{false≢true, and-left}
 
 -- what is negative is not a zero
 neg-some : (x : Float) → lt x zero+ ≡ true → eq (neg x) zero+ ≡ true → ⊥

@@ -1,17 +1,15 @@
 -- Where every entry of a term is at most 2 ^ -52, the series stops there, whatever the sum holds. So it stops at term 15 or sooner. Assumes nothing.
 use mathlib.Core.Path.{_≡_, refl, sym, ap, _∙_, subst}
-use mathlib.Core.List.{List, [], _∷_, map}
-use Prim.Native.Nat.{ℕ, zero, suc, _+_, _-_, _*_, _/_, _%_, _^_, _≤_, _<_, zero-le, suc-le-suc}
-use native.Mathlib.Nat.{le-trans, le-refl, le-of-eq, le-of-lt, le-suc, lt-of-lt-of-le, lt-of-le-of-lt, not-le-of-lt, zero-lt-suc, mul-one, mul-comm, mul-assoc, mul-left-comm, mul-right-comm, mul-le-mul-right, mul-le-mul-left, mul-pos, le-of-mul-le-mul-right, div-lt-iff-lt-mul, div-add-mod', mod-lt, zero-add, add-zero, add-suc, suc-add, le-of-suc-le-suc}
+use mathlib.Core.List.{List}
+use Prim.Native.Nat.{ℕ, zero, suc, _+_, _*_, _/_, _%_, _^_, _≤_, _<_, zero-le}
+use native.Mathlib.Nat.{le-trans, le-refl, le-of-eq, le-of-lt, le-suc, not-le-of-lt, zero-lt-suc, mul-comm, mul-le-mul-right, mul-le-mul-left, mul-pos, le-of-mul-le-mul-right, div-lt-iff-lt-mul, div-add-mod', mod-lt, add-zero, add-suc, suc-add, le-of-suc-le-suc}
 use native.Mathlib.Omega.{arith}
-use mathlib.Core.Bool.{Bool, true, false, not, cond, _||_, true≢false}
-use lib.Dec.{T, leb, ltb, leb→le, ltb→lt, nltb→le, lit≤, lit<}
+use mathlib.Core.Bool.{Bool, true, false, not, cond, true≢false}
+use lib.Dec.{T, ltb, ltb→lt, nltb→le, lit≤}
 use lib.Pow.{pow-pos}
 use lib.ListN.{length, getD}
-use lib.IntN.{pos, negsuc}
 use lib.Count.{trailingZeros}
-use lib.Ieee.{Float, nan, inf, fin, binary64, emax, low, up, down, mul, lt, le, round, isNan, ofBits, ofFields, odd}
-use lib.Ieee.Digits.{Equals}
+use lib.Ieee.{Float, nan, inf, fin, binary64, up, down, mul, lt, le, round, isNan, ofBits, ofFields, odd}
 use lib.Ieee.Fits.{down-pos}
 use lib.Ieee.Exact.{HasValue, round-exact}
 use lib.Ieee.Order.{transfer, le-of-values, round-mono}
@@ -19,10 +17,11 @@ use lib.Ieee.Positive.{num, den, den-pos, positive, above, above-of-le, own-valu
 use Rattle.loops.specs.Loop.{_!_}
 use Rattle.float.specs.Arith.{_⊗_, zero+, one, epsilon, abs, larger, most}
 use Rattle.matrix.specs.Matrix.{at, maxAbs, small, identity, nextTerm, addAll, series, taylor}
-use Rattle.float.proofs.Mag.{mag, On, equals-on, equals-mag, value-equals}
-use Rattle.float.proofs.Total.{total, entry-le}
+use Rattle.float.proofs.Mag.{mag}
+use Rattle.float.proofs.Total.{entry-le}
+use Rattle.matrix.proofs.Bools.{is-true}
 use Rattle.matrix.proofs.Series.{series-stop, series-go}
-use Rattle.matrix.proofs.Row.{On64, mag64, unit64, zero-on, zero-mag}
+use Rattle.matrix.proofs.RowSums.{On64, mag64, unit64, zero-mag}
 use Rattle.matrix.proofs.Terms.{Rows, bd, bd-15, termAt, term-rows, term-length}
 
 -- ---- values that are not negative: finite, and a whole number of units
@@ -205,10 +204,6 @@ stop-here d b n k r h = series-stop d b n (termAt b n k) r (suc k) (rw next-is h
 
 go-on : (d : ℕ) (b : List Float) (n k : ℕ) (r : List Float) → small (termAt b n (suc k)) (with b n k r) ≡ false → series (suc d) b n (termAt b n k) r (suc k) ≡ series d b n (termAt b n (suc k)) (with b n k r) (suc (suc k))
 go-on d b n k r h = series-go d b n (termAt b n k) r (suc k) (rw next-is h) ∙ rw next-is
-
-is-true : (c : Bool) → T c → c ≡ true
-is-true true t = refl
-is-true false t = absurd t
 
 -- where the test passes at term k + e + 1, the series stops there or sooner, and more room than e + 1 terms is never used
 module _ (b : List Float) (n : ℕ) where

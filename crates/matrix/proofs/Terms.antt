@@ -1,26 +1,25 @@
 -- The Taylor terms as matrices: the row sums of term k are at most `bd k` units, and every entry is finite. Assumes nothing.
 use mathlib.Core.Path.{_≡_, refl, sym, ap, _∙_, subst}
-use mathlib.Core.List.{List, [], _∷_, map}
-use Prim.Native.Nat.{ℕ, zero, suc, _+_, _-_, _*_, _/_, _%_, _^_, _≤_, _<_, zero-le}
-use native.Mathlib.Nat.{le-trans, le-refl, le-of-eq, le-of-lt, le-suc, lt-of-lt-of-le, lt-of-le-of-lt, not-le-of-lt, zero-lt-suc, zero-mul, add-zero, zero-add, add-suc, suc-add, le-of-suc-le-suc, mul-one, mul-comm, mul-assoc, mul-le-mul-right, mul-le-mul-left, mul-pos, le-div-iff-mul-le, div-le-of-le-mul, add-le-add}
+use mathlib.Core.List.{List}
+use Prim.Native.Nat.{ℕ, zero, suc, _+_, _*_, _/_, _^_, _≤_, _<_, zero-le}
+use native.Mathlib.Nat.{le-trans, le-refl, le-of-eq, le-suc, lt-of-lt-of-le, lt-of-le-of-lt, not-le-of-lt, zero-lt-suc, mul-one, mul-le-mul-right, le-div-iff-mul-le, div-le-of-le-mul}
 use native.Mathlib.Omega.{arith}
-use mathlib.Core.Bool.{Bool, true, false, not, cond}
-use lib.Dec.{T, leb, leb→le, eqb, eqb→eq, eqb-refl, lit≤, lit<}
-use lib.Pow.{pow-pos, shl-lt}
-use lib.Arith.{digits-lt, digits-div, digits-mod}
-use lib.ListN.{length, getD, length-map, List·getD-map}
+use mathlib.Core.Bool.{Bool, true, false, cond}
+use lib.Dec.{T, leb→le, eqb, eqb→eq, lit≤}
+use lib.Pow.{shl-lt}
+use lib.ListN.{length}
 use lib.IntN.{pos}
 use lib.Count.{trailingZeros}
-use lib.Ieee.{Float, nan, inf, fin, binary64, emax, low, add, mul, div, ofInt, ofBits, ofFields, odd}
+use lib.Ieee.{Float, binary64, low, ofInt, ofBits, ofFields, odd}
 use lib.Ieee.Exact.{HasValue, round-exact}
-use Rattle.float.specs.Arith.{_⊕_, _⊗_, _⊘_, zero+, one}
+use Rattle.float.specs.Arith.{_⊘_, zero+, one}
 use Rattle.loops.specs.Loop.{mat, _!_}
 use Rattle.loops.proofs.Loops.{length-tab, tab-at}
 use Rattle.loops.proofs.Places.{mat-at, length-mat, row-fits}
 use Rattle.matrix.specs.Matrix.{at, identity, matMul, divAll, nextTerm}
-use Rattle.float.proofs.Mag.{mag, On, equals-on, equals-mag}
-use Rattle.float.proofs.Total.{total, total-mono, entry-le}
-use Rattle.matrix.proofs.Row.{dot, On64, mag64, unit64, zero-on, zero-mag, row-on, row-shrinks}
+use Rattle.float.proofs.Mag.{equals-on, equals-mag}
+use Rattle.float.proofs.Total.{total, total-mono}
+use Rattle.matrix.proofs.RowSums.{dot, On64, mag64, unit64, zero-on, zero-mag, row-on, row-shrinks}
 
 -- ---- entries
 matMul-entry : (n i j : ℕ) (l r : List Float) → i < n → j < n → at (matMul l r n) n i j ≡ dot n (at l n i) (λ k. at r n k j)

@@ -1,7 +1,7 @@
 -- What matrix_exp hands on from step to step, and what it leaves. Assumes nothing.
-use Prim.Native.Nat.{ℕ, _+_, _*_, _<_, _≤_}
-use mathlib.Core.Path.{_≡_, refl, sym, ap, _∙_}
-use mathlib.Core.Bool.{Bool, true, false, cond, not}
+use Prim.Native.Nat.{ℕ, _*_, _≤_}
+use mathlib.Core.Path.{_≡_, sym, _∙_}
+use mathlib.Core.Bool.{Bool, true, false, not}
 use mathlib.Core.List.{List}
 use borrow.Author.Tests.{not-true, not-false}
 use lib.Dec.{T}
@@ -10,7 +10,6 @@ use lib.Ieee.{Float, binary64, fits, le}
 use Rattle.loops.specs.Loop.{_!_}
 use Rattle.float.specs.Arith.{limit}
 use Rattle.matrix.specs.Matrix.{taylor, scaled, squared, norm, admitted, squarings, exponential}
-use Rattle.matrix.specs.Claims.{Admitted}
 use Rattle.matrix.specs.Calls.{Normed, Scaled, Filled}
 use Rattle.matrix.proofs.Powers.{norm-limit}
 use Rattle.matrix.proofs.Claims.{stops-at-15}

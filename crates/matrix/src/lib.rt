@@ -1,13 +1,13 @@
 // matrix.rs: the identity, products, and the exponential by scaling, Taylor's series and squaring.
 // A matrix of size n is a slice of n * n entries, row by row.
 ghost use mathlib.Core.Path.{_≡_};
-ghost use Prim.Native.Nat.{ℕ, _+_, _*_, _≤_, _<_};
+ghost use Prim.Native.Nat.{_+_, _*_, _≤_, _<_};
 ghost use mathlib.Core.Bool.{true, false};
 ghost use lib.Ieee.{le, isNan};
 ghost use lib.ListN.{length};
 ghost use Rattle.loops.specs.Loop.{stores, _!_};
 ghost use Rattle.float.specs.Arith.{_⊕_, _⊗_, zero+, limit, abs, larger, sumOf};
-ghost use Rattle.matrix.specs.Matrix.{at, identity, matMul, divAll, rowSum, norm, admitted, squarings, power, scaled, nextTerm, taylor, squared};
+ghost use Rattle.matrix.specs.Matrix.{at, identity, matMul, divAll, rowSum, norm, power, scaled, taylor, squared};
 ghost use Rattle.matrix.specs.Vector.{matVec};
 ghost use Rattle.matrix.specs.Calls.{products, Started, Normed, Scaled, Added, Turned, Summed, Filled};
 
@@ -108,7 +108,7 @@ fn first_products(left: &[f64], right: &[f64], out: &mut [f64], i: usize, n: usi
     2
 }
 
-// Row i of left * right.
+// Row i of left * right. Each entry adds its products in the order of k, as the Rust does.
 fn product_row(left: &[f64], right: &[f64], out: &mut [f64], i: usize, n: usize)
     requires { ⌜ (i < n) × (n ≤ 20) ⌝ }
     requires { ⌜ (length (now left) ≡ n * n) × (length (now right) ≡ n * n) × (length (now out) ≡ n * n) ⌝ }
@@ -209,16 +209,16 @@ fn row_norm(m: &[f64], n: usize) -> Norm
 
 // ---- step 2: how often to square
 
-// A number of squarings, and 2 to that power.
+// A number of squarings, and 2 to that power, by which the matrix is divided.
 struct Scale {
     count: u32,
-    power: f64,
+    divisor: f64,
 }
 
 // The least count with 2^count >= 2 * norm.
 fn scale_of(norm: f64) -> Scale
     requires { ⌜ le norm limit ≡ true ⌝ }
-    ensures { λ r. ⌜ Scaled norm (r .count) (r .power) ⌝ }
+    ensures { λ r. ⌜ Scaled norm (r .count) (r .divisor) ⌝ }
 {
     let mut count = 0;
     let mut half = 0.5;
@@ -226,8 +226,8 @@ fn scale_of(norm: f64) -> Scale
         half = half * 2.0;
         count += 1;
     }
-    let power = half * 2.0;
-    Scale { count, power }
+    let divisor = half * 2.0;
+    Scale { count, divisor }
 }
 
 // ---- steps 3 and 4: the series
@@ -324,15 +324,15 @@ fn exp_into(
     even: &mut [f64],
     odd: &mut [f64],
     count: u32,
-    power: f64,
+    divisor: f64,
     n: usize,
 )
-    requires { ⌜ (n ≤ 20) × (power ≡ Rattle.matrix.specs.Matrix.power count) ⌝ }
+    requires { ⌜ (n ≤ 20) × (divisor ≡ power count) ⌝ }
     requires { ⌜ (length (now m) ≡ n * n) × (length (now out) ≡ n * n) × (length (now a) ≡ n * n) × (length (now even) ≡ n * n) × (length (now odd) ≡ n * n) ⌝ }
     requires { ⌜ taylor (scaled (now m) count) n .terms ≤ 15 ⌝ }
     ensures { λ _. ⌜ now (out .exit) ≡ squared count (taylor (scaled (now (m .entry)) count) n .sum) n ⌝ }
 {
-    div_into(m, a, power);
+    div_into(m, a, divisor);
     if count % 2 == 0 {
         taylor(a, out, even, odd, n);
         square(out, odd, count / 2, n);
@@ -344,8 +344,8 @@ fn exp_into(
 }
 
 // Room for sizes up to 4.
-fn exp_small(m: &[f64], out: &mut [f64], count: u32, power: f64, n: usize)
-    requires { ⌜ (n ≤ 4) × (power ≡ Rattle.matrix.specs.Matrix.power count) ⌝ }
+fn exp_small(m: &[f64], out: &mut [f64], count: u32, divisor: f64, n: usize)
+    requires { ⌜ (n ≤ 4) × (divisor ≡ power count) ⌝ }
     requires { ⌜ (length (now m) ≡ n * n) × (length (now out) ≡ n * n) ⌝ }
     requires { ⌜ taylor (scaled (now m) count) n .terms ≤ 15 ⌝ }
     ensures { λ _. ⌜ now (out .exit) ≡ squared count (taylor (scaled (now (m .entry)) count) n .sum) n ⌝ }
@@ -361,14 +361,14 @@ fn exp_small(m: &[f64], out: &mut [f64], count: u32, power: f64, n: usize)
         &mut even[..size],
         &mut odd[..size],
         count,
-        power,
+        divisor,
         n,
     );
 }
 
 // Room for sizes up to 8.
-fn exp_medium(m: &[f64], out: &mut [f64], count: u32, power: f64, n: usize)
-    requires { ⌜ (n ≤ 8) × (power ≡ Rattle.matrix.specs.Matrix.power count) ⌝ }
+fn exp_medium(m: &[f64], out: &mut [f64], count: u32, divisor: f64, n: usize)
+    requires { ⌜ (n ≤ 8) × (divisor ≡ power count) ⌝ }
     requires { ⌜ (length (now m) ≡ n * n) × (length (now out) ≡ n * n) ⌝ }
     requires { ⌜ taylor (scaled (now m) count) n .terms ≤ 15 ⌝ }
     ensures { λ _. ⌜ now (out .exit) ≡ squared count (taylor (scaled (now (m .entry)) count) n .sum) n ⌝ }
@@ -384,14 +384,14 @@ fn exp_medium(m: &[f64], out: &mut [f64], count: u32, power: f64, n: usize)
         &mut even[..size],
         &mut odd[..size],
         count,
-        power,
+        divisor,
         n,
     );
 }
 
 // Room for sizes up to 20.
-fn exp_large(m: &[f64], out: &mut [f64], count: u32, power: f64, n: usize)
-    requires { ⌜ (n ≤ 20) × (power ≡ Rattle.matrix.specs.Matrix.power count) ⌝ }
+fn exp_large(m: &[f64], out: &mut [f64], count: u32, divisor: f64, n: usize)
+    requires { ⌜ (n ≤ 20) × (divisor ≡ power count) ⌝ }
     requires { ⌜ (length (now m) ≡ n * n) × (length (now out) ≡ n * n) ⌝ }
     requires { ⌜ taylor (scaled (now m) count) n .terms ≤ 15 ⌝ }
     ensures { λ _. ⌜ now (out .exit) ≡ squared count (taylor (scaled (now (m .entry)) count) n .sum) n ⌝ }
@@ -407,7 +407,7 @@ fn exp_large(m: &[f64], out: &mut [f64], count: u32, power: f64, n: usize)
         &mut even[..size],
         &mut odd[..size],
         count,
-        power,
+        divisor,
         n,
     );
 }
@@ -425,12 +425,12 @@ pub fn matrix_exp(m: &[f64], out: &mut [f64], n: usize) -> bool
     }
     let scale = scale_of(norm.value);
     if n <= 4 {
-        exp_small(m, out, scale.count, scale.power, n);
+        exp_small(m, out, scale.count, scale.divisor, n);
     } else {
         if n <= 8 {
-            exp_medium(m, out, scale.count, scale.power, n);
+            exp_medium(m, out, scale.count, scale.divisor, n);
         } else {
-            exp_large(m, out, scale.count, scale.power, n);
+            exp_large(m, out, scale.count, scale.divisor, n);
         }
     }
     true

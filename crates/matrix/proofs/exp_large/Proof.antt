@@ -3,7 +3,7 @@ use mathlib.Core.Path.{sym}
 use native.Mathlib.Omega.{arith}
 use native.Mathlib.Nat.{mul-le-mul}
 use borrow.Author.Needs.{needs}
-use Rattle.matrix.proofs.Rows.{room}
+use Rattle.matrix.proofs.Runs.{room}
 use Rattle.matrix.proofs.exp_large.Statement.{statement}
 use Rattle.matrix.proofs.exp_large.Tie as tie
 

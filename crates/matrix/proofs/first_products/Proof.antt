@@ -1,6 +1,6 @@
 -- `matrix::first_products` meets its contract. Assumes nothing.
 use native.Mathlib.Omega.{arith}
-use Rattle.matrix.proofs.Rows.{room}
+use Rattle.matrix.proofs.Runs.{room}
 use Rattle.matrix.proofs.Products.{first-one, first-two}
 use Rattle.matrix.proofs.first_products.Statement.{statement}
 use Rattle.matrix.proofs.first_products.Tie as tie

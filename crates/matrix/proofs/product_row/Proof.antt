@@ -5,7 +5,7 @@ use native.Mathlib.Omega.{arith}
 use lib.ListN.{length}
 use Rattle.loops.specs.Loop.{stores}
 use Rattle.matrix.specs.Calls.{products}
-use Rattle.matrix.proofs.Rows.{room}
+use Rattle.matrix.proofs.Runs.{room}
 use Rattle.matrix.proofs.Products.{row-first, row-two, pair-even, pair-room, row-end}
 use Rattle.matrix.proofs.product_row.Statement.{statement}
 use Rattle.matrix.proofs.product_row.Tie as tie

@@ -1,6 +1,6 @@
 -- `matrix::row_start` meets its contract. Assumes nothing.
 use native.Mathlib.Omega.{arith}
-use Rattle.matrix.proofs.Rows.{row-small}
+use Rattle.matrix.proofs.Runs.{row-small}
 use Rattle.matrix.proofs.row_start.Statement.{statement}
 use Rattle.matrix.proofs.row_start.Tie as tie
 

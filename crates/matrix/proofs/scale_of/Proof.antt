@@ -2,7 +2,7 @@
 use Prim.Native.Nat.{_-_, _≤_}
 use mathlib.Core.Path.{_≡_}
 use native.Mathlib.Omega.{arith}
-use Rattle.matrix.proofs.Rows.{room}
+use Rattle.matrix.proofs.Runs.{room}
 use Rattle.matrix.proofs.Powers.{halfOf, half-zero, half-next, Short, short-step, short-room, squarings-is, twice-half}
 use Rattle.matrix.proofs.scale_of.Statement.{statement}
 use Rattle.matrix.proofs.scale_of.Tie as tie

@@ -1,18 +1,18 @@
 -- A matrix filled row by row, and places that a run of stores has not reached. Assumes nothing.
 use Prim.Native.Nat.{ℕ, zero, suc, _+_, _*_, _<_, _≤_}
-use mathlib.Core.Path.{_≡_, refl, sym, ap, _∙_}
+use mathlib.Core.Path.{_≡_, refl, sym, _∙_}
 use mathlib.Core.List.{List}
 use native.Mathlib.Numerals.{add-one}
-use native.Mathlib.Nat.{zero-mul, suc-mul, zero-add, mul-le-mul}
+use native.Mathlib.Nat.{zero-mul, suc-mul, mul-le-mul}
 use native.Mathlib.Omega.{arith}
-use lib.Ieee.{Float, nan}
-use lib.ListN.{length, set, take, replicate}
+use lib.Ieee.{Float}
+use lib.ListN.{length, take, replicate}
 use lib.Seq.{set-getD, length-take-le}
 use Rattle.loops.specs.Loop.{stores, tab, _!_}
 use Rattle.loops.proofs.Loops.{stores-none}
 use Rattle.loops.proofs.Stores.{stores-suc, stores-out, stores-all, stores-join}
 use Rattle.loops.proofs.Places.{row-fits}
-use Rattle.float.specs.Arith.{zero+, larger, most}
+use Rattle.float.specs.Arith.{zero+, most}
 
 -- a row ends within the matrix, and the matrix within 400 places
 pub row-small : (i n : ℕ) → i < n → n ≤ 20 → (i * n + n ≤ n * n) × (n * n ≤ 400)

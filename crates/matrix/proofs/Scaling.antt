@@ -1,30 +1,26 @@
 -- The scaled matrix: where 2 ^ s is twice the largest row sum at least, the rows of the matrix divided by 2 ^ s sum to little more than a half. Assumes nothing.
 use mathlib.Core.Path.{_≡_, refl, sym, ap, _∙_, subst}
-use mathlib.Core.List.{List, [], _∷_, map}
-use mathlib.Core.Logic.{inl, inr, _⊎_}
-use Prim.Native.Nat.{ℕ, zero, suc, _+_, _-_, _*_, _/_, _%_, _^_, _≤_, _<_, zero-le, suc-le-suc}
-use native.Mathlib.Nat.{le-trans, le-refl, le-of-eq, le-of-lt, le-suc, lt-of-lt-of-le, lt-of-le-of-lt, lt-of-not-le, eq-or-lt-of-le, not-le-of-lt, zero-lt-suc, zero-mul, zero-add, add-mul, mul-add, mul-one, mul-comm, mul-assoc, mul-left-comm, mul-right-comm, mul-le-mul-right, mul-le-mul-left, mul-le-mul, mul-pos, le-of-mul-le-mul-right, le-of-suc-le-suc, le-div-iff-mul-le, div-mul-le-self}
+use mathlib.Core.Logic.{inl, inr}
+use Prim.Native.Nat.{ℕ, zero, suc, _+_, _-_, _*_, _/_, _%_, _^_, _≤_, _<_}
+use native.Mathlib.Nat.{le-trans, le-refl, le-of-eq, le-suc, lt-of-not-le, eq-or-lt-of-le, not-le-of-lt, zero-lt-suc, zero-mul, add-mul, mul-one, mul-comm, mul-assoc, mul-left-comm, mul-right-comm, mul-le-mul-right, mul-le-mul-left, mul-pos, le-of-mul-le-mul-right, le-of-suc-le-suc}
 use native.Mathlib.Omega.{arith}
-use mathlib.Core.Bool.{Bool, true, false, not, cond, _&&_, _||_, Bool·beq, true≢false}
-use lib.Dec.{T, leb, ltb, eqb, leb→le, ltb→lt, nltb→le, eqb→eq, lit≤, lit<}
-use lib.Pow.{pow-pos, pow-add, pow-mono, pow-lt}
-use lib.Arith.{digits-lt}
-use lib.ListN.{length, getD}
-use lib.IntN.{ℤ, pos, negsuc}
-use lib.Ieee.{Float, nan, inf, fin, binary64, prec, emax, low, up, down, fits, add, div, lt, le, round, sum}
-use lib.Ieee.Digits.{Equals, back}
-use lib.Ieee.Fits.{down-pos, up-pos, and-l, and-r}
+use mathlib.Core.Bool.{Bool, true, false, cond, _&&_, Bool·beq, true≢false}
+use lib.Dec.{T, leb, ltb, eqb, leb→le}
+use lib.Pow.{pow-pos, pow-add, pow-lt}
+use lib.IntN.{pos, negsuc}
+use lib.Ieee.{Float, nan, inf, fin, binary64, emax, up, down, fits, add, round, sum}
+use lib.Ieee.Digits.{back}
+use lib.Ieee.Fits.{down-pos, and-l, and-r}
 use lib.Ieee.Exact.{HasValue}
-use lib.Ieee.Order.{transfer, le-of-values}
-use lib.Ieee.Scale.{finite, grid, overflow, round-same, round-under, round-val}
-use Rattle.float.specs.Arith.{_⊕_, _⊘_, zero+, abs, sumOf}
+use lib.Ieee.Scale.{finite, grid, round-same, round-under, round-val}
+use Rattle.float.specs.Arith.{_⊕_, _⊘_, abs, sumOf}
 use Rattle.matrix.specs.Matrix.{power}
 use Rattle.float.proofs.Round.{half, grid-up, grid-down}
-use Rattle.float.proofs.Mag.{Near, near-cancel, mag, On, equals-on, equals-mag, value-equals, plus-cross, common}
+use Rattle.float.proofs.Mag.{Near, near-cancel, equals-on, equals-mag, value-equals, plus-cross, common}
 use Rattle.float.proofs.Signed.{sgn, Rounds, div-rounds}
 use Rattle.float.proofs.Total.{total, entry-le}
-use Rattle.matrix.proofs.Row.{On64, mag64, unit64, lit-left, crude, spread, big-unit}
-use Rattle.matrix.proofs.Stop.{Pos64, abs-pos, abs-mag, larger-pos, zero-pos}
+use Rattle.matrix.proofs.RowSums.{On64, mag64, unit64, lit-left, crude, spread, big-unit}
+use Rattle.matrix.proofs.Stop.{Pos64, abs-pos, abs-mag}
 
 -- ---- a binary64 value that is finite is a whole number of units
 expo : (k l : ℕ) → 2 ^ k ≤ 2 ^ l → k ≤ l

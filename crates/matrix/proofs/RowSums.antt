@@ -1,20 +1,19 @@
 -- One row of a Taylor term: the row sum of magnitudes shrinks to 9 / (16 * K) of the last term's, and a little. Assumes nothing.
 use mathlib.Core.Path.{_≡_, refl, sym, ap, _∙_, subst}
-use Prim.Native.Nat.{ℕ, zero, suc, _+_, _-_, _*_, _/_, _%_, _^_, _≤_, _<_, zero-le}
-use native.Mathlib.Nat.{le-trans, le-refl, le-of-eq, le-of-lt, le-suc, zero-mul, suc-mul, add-mul, mul-add, mul-one, mul-comm, mul-assoc, mul-left-comm, mul-right-comm, mul-le-mul-right, mul-le-mul-left, mul-le-mul, add-le-add, le-of-mul-le-mul-right, le-of-mul-le-mul-left, mul-pos}
+use Prim.Native.Nat.{ℕ, zero, suc, _+_, _*_, _/_, _^_, _≤_, _<_, zero-le}
+use native.Mathlib.Nat.{le-trans, le-refl, le-of-eq, le-suc, suc-mul, add-mul, mul-comm, mul-assoc, mul-left-comm, mul-right-comm, mul-le-mul-right, mul-le-mul-left, mul-le-mul, add-le-add, le-of-mul-le-mul-right}
 use native.Mathlib.Omega.{arith}
-use mathlib.Core.Bool.{Bool, true, false}
-use lib.Dec.{T, leb, leb→le, lit≤, lit<}
+use mathlib.Core.Bool.{false}
+use lib.Dec.{T, leb, leb→le, lit≤}
 use lib.Pow.{pow-pos}
-use lib.IntN.{pos}
 use lib.Count.{trailingZeros}
-use lib.Ieee.{Float, nan, inf, fin, Format, binary64, emax, low, unlike, add, mul, div, ofBits, ofFields, odd}
+use lib.Ieee.{Float, binary64, emax, low, unlike, ofBits, ofFields, odd}
 use lib.Ieee.Exact.{HasValue}
 use Rattle.float.specs.Arith.{_⊕_, _⊗_, _⊘_, zero+}
 use Rattle.loops.specs.Loop.{iter}
 use Rattle.float.proofs.Round.{half}
 use Rattle.float.proofs.Mag.{Near, mag, On, equals-on, equals-mag}
-use Rattle.float.proofs.Signed.{sgn, plus, minus, Off, off-refl, off-trans, off-wide, off-add, Rounds, mul-rounds, div-rounds, add-off, add-le}
+use Rattle.float.proofs.Signed.{sgn, Rounds, mul-rounds, div-rounds, add-off, add-le}
 use Rattle.float.proofs.Total.{total, total-mono, total-add, total-mul, total-const, total-swap, entry-le, prefix-le}
 
 abbrev pub On64 : Float → Type 0
@@ -22,12 +21,6 @@ On64 x = On binary64 x
 
 abbrev pub mag64 : Float → ℕ
 mag64 x = mag binary64 x
-
-abbrev pub plus64 : Float → ℕ
-plus64 x = plus binary64 x
-
-abbrev pub minus64 : Float → ℕ
-minus64 x = minus binary64 x
 
 abbrev pub unit64 : ℕ
 unit64 = 2 ^ low binary64
@@ -46,10 +39,6 @@ pub zero-mag : mag64 zero+ ≡ 0
 unfolding ofBits ofFields odd trailingZeros
 zero-mag = equals-mag binary64 zero+ 0 refl
 
-zero-off : (e : ℕ) → Off (plus64 zero+) (minus64 zero+) 0 0 e
-unfolding ofBits ofFields odd trailingZeros
-zero-off e = let z : mag64 zero+ ≡ 0 = zero-mag in (omega arith, omega arith)
-
 -- (S + n * E) fits
 abbrev pub Room : ℕ → Type 0
 Room v = v * 2 ≤ unit64 * 2 ^ emax binary64
@@ -66,32 +55,21 @@ grown m t p j E g h k = let a : suc j * E ≡ j * E + E = suc-mul j E in omega a
 -- what holds of the sum of the first j products, if each rounding is off by E at most
 abbrev pub Summed : (ℕ → Float) → (ℕ → Float) → ℕ → ℕ → Type 0
 Summed l r E j = On64 (dot j l r) × (mag64 (dot j l r) ≤ total j (λ k. mag64 (l k ⊗ r k)) + j * E)
-    × Off (plus64 (dot j l r)) (minus64 (dot j l r)) (total j (λ k. plus64 (l k ⊗ r k))) (total j (λ k. minus64 (l k ⊗ r k))) (j * E)
 
 module _ (n : ℕ) (l r : ℕ → Float) (S E : ℕ) (on : (k : ℕ) → k < n → On64 (l k ⊗ r k)) (sum-le : total n (λ k. mag64 (l k ⊗ r k)) ≤ S) (enough : S + n * E + half binary64 ≤ E * (2 * half binary64)) (room : Room (S + n * E)) where
   pub dot-bound : (j : ℕ) → j ≤ n → Summed l r E j
   unfolding dot iter total
-  dot-bound zero h = (zero-on, le-trans (le-of-eq zero-mag) zero-le, zero-off (0 * E))
+  dot-bound zero h = (zero-on, le-trans (le-of-eq zero-mag) zero-le)
   dot-bound (suc j) h =
       let h' = le-trans (le-suc j) h in
       let ih = dot-bound j h' in
       let d = dot j l r in
       let z = l j ⊗ r j in
-      let tp = total j (λ k. plus64 (l k ⊗ r k)) in
-      let tn = total j (λ k. minus64 (l k ⊗ r k)) in
       let t = total j (λ k. mag64 (l k ⊗ r k)) in
       let v = mag64 d + mag64 z in
       let w : v ≤ S + n * E = reach (mag64 d) t (mag64 z) j n S E (ih .1) (le-trans (prefix-le n (λ k. mag64 (l k ⊗ r k)) (suc j) h) sum-le) h' in
       let a = add-off binary64 d z E (ih .0) (on j h) (room-mono v (S + n * E) w room) (le-trans (add-le-add w (le-refl (half binary64))) enough) in
-      let c = off-add (plus64 d) (minus64 d) tp tn (j * E) (plus64 z) (minus64 z) (plus64 z) (minus64 z) 0 (ih .2) (off-refl (plus64 z) (minus64 z)) in (
-        a .0,
-        grown (mag64 d) t (mag64 z) j E (mag64 (d ⊕ z)) (ih .1) (add-le binary64 d z E (a .1)),
-        off-wide (plus64 (d ⊕ z)) (minus64 (d ⊕ z)) (tp + plus64 z) (tn + minus64 z) (E + (j * E + 0)) (suc j * E) (count j E)
-            (off-trans (plus64 (d ⊕ z)) (minus64 (d ⊕ z)) (plus64 d + plus64 z) (minus64 d + minus64 z) (tp + plus64 z) (tn + minus64 z) E (j * E + 0) (a .1) c),
-      )
-    where
-      count : (x y : ℕ) → y + (x * y + 0) ≤ suc x * y
-      count x y = let e = suc-mul x y in omega arith
+      (a .0, grown (mag64 d) t (mag64 z) j E (mag64 (d ⊕ z)) (ih .1) (add-le binary64 d z E (a .1)))
 
 -- ---- crude forms of one rounding
 pub crude : (v c g : ℕ) → Near (half binary64) v c g → c * 1024 * g ≤ 1025 * v + c * 1024

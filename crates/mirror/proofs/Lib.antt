@@ -1,0 +1,10 @@
+pub mod Floats
+pub mod Vectors
+pub mod Matrices
+pub mod Passes
+pub mod Steps
+pub mod Places
+pub mod Sessions
+pub mod Calls
+pub mod Runs
+pub mod Rows

@@ -1,0 +1,12 @@
+-- `session::not_allowed` meets its contract. Assumes nothing.
+use mathlib.Core.Path.{refl}
+use Rattle.methods.specs.Step.{progress as reached}
+use Rattle.session.proofs.not_allowed.Statement.{statement}
+use Rattle.session.proofs.not_allowed.Tie as tie
+
+pub not-allowed-spec : {M : Type 1} → statement M
+unfolding reached
+not-allowed-spec =
+    tie.close
+    (tie.spec
+    (λ c. refl))

@@ -1,0 +1,19 @@
+-- `session::run_places` meets its contract. Assumes nothing.
+use borrow.Author.Needs.{needs}
+use Rattle.session.specs.Session.{runPlaces}
+use Rattle.session.proofs.run_places.Statement.{statement}
+use Rattle.session.proofs.run_places.Tie as tie
+
+pub run-places-spec : {M : Type 1} → statement M
+unfolding runPlaces
+run-places-spec =
+    tie.close
+    (tie.spec
+    (λ c. search needs)
+    (λ c κs. search needs)
+    (λ c. search needs)
+    (λ c κs. search needs)
+    (λ c. search needs)
+    (λ c κs. search needs)
+    (λ c κs. search needs)
+    (λ c. rw (c .clear3 .ensures, c .before .used-history .ensures, c .before .before .before .clear2 .ensures, c .before .before .before .before .before .clear .ensures)))

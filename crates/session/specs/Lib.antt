@@ -1,0 +1,4 @@
+pub mod Session
+pub mod Calls
+pub mod Bare
+pub mod Refusals

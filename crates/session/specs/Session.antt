@@ -1,0 +1,179 @@
+-- A session, what a call refuses it for, and how far its attempt has come. Definitions only.
+use Prim.Native.Nat.{ℕ, _+_, _-_, _*_, _/_, _%_, _≤_}
+use mathlib.Core.Path.{_≡_}
+use mathlib.Core.Bool.{Bool, true, false, cond, not, _&&_, _||_}
+use mathlib.Core.List.{List}
+use lib.Dec.{ltb, leb, eqb}
+use lib.Ieee.{Float, lt, eq}
+use lib.ListN.{length, take}
+use Rattle.loops.specs.Loop.{every, mat, _!_}
+use Rattle.float.specs.Arith.{zero+, finite, plusZero}
+use Rattle.evaluation.specs.Evaluation.{allFinite}
+use Rattle.methods.specs.declared.Point.{Point}
+use Rattle.methods.specs.Step.{Progress, refused, asking, questions, performStep}
+use Rattle.engine.specs.Engine.{perturbed, jacobianEntry, columnOk}
+use Rattle.session.specs.declared.Session.{Session}
+use Rattle.session.specs.declared.History.{History}
+use Rattle.session.specs.declared.History.the-variants.{Missing, Held}
+use Rattle.session.specs.declared.Attempt.{Attempt}
+use Rattle.session.specs.declared.Attempt.the-variants.{None, Supplied, Differenced}
+use Rattle.session.specs.declared.Phase.{Phase}
+use Rattle.session.specs.declared.Phase.the-variants.{Any, Rest, Asking, Waiting}
+
+-- ---- places in use
+
+-- the places from `used` on are +0.0
+unfoldable pub clear : ℕ → List Float → Bool
+clear used x = every (length x) (λ p. ltb p used || plusZero (x ! p))
+
+-- the places that hold no entry of an answer are +0.0: answer k begins at 16 k
+unfoldable pub clearAnswers : ℕ → ℕ → List Float → Bool
+clearAnswers count n x = every (length x) (λ p. (ltb (p / 16) count && ltb (p % 16) n) || plusZero (x ! p))
+
+-- how many places of the history are in use
+unfoldable pub usedHistory : History → ℕ → ℕ
+usedHistory Missing n = 0
+usedHistory Held n = n
+
+-- how many places of the Jacobian are in use
+unfoldable pub usedJacobian : Attempt → ℕ → ℕ
+usedJacobian None n = 0
+usedJacobian Supplied n = n * n
+usedJacobian Differenced n = 0
+
+-- without an attempt the step is a place not in use
+unfoldable pub stepClear : Attempt → Float → Bool
+stepClear None step = plusZero step
+stepClear Supplied step = true
+stepClear Differenced step = true
+
+-- how many answers an attempt asks for: its right-hand sides
+unfoldable pub wanted : ℕ → ℕ → Attempt → ℕ
+wanted scheme n None = 0
+wanted scheme n Supplied = questions scheme
+wanted scheme n Differenced = n + questions scheme
+
+-- ---- the conditions of document 01's table, on the session: each holds where its number is not given
+
+-- a dimension is 1 to 16
+unfoldable pub sizeOk : ℕ → Bool
+sizeOk n = leb 1 n && leb n 16
+
+-- 1, of the run
+unfoldable pub runPlaces : Session → Bool
+runPlaces s = clear (s .n) (s .state) && clear (s .n) (s .derivative) && clear (usedHistory (s .history) (s .n)) (s .previous)
+
+-- 1, of the attempt
+unfoldable pub attemptPlaces : Session → Bool
+attemptPlaces s = stepClear (s .attempt) (s .step) && clear (usedJacobian (s .attempt) (s .n)) (s .jacobian) && clearAnswers (s .count) (s .n) (s .answers)
+
+-- 1: the dimension, and every place not in use
+unfoldable pub good1 : Session → Bool
+good1 s = cond (sizeOk (s .n)) (runPlaces s && attemptPlaces s) false
+
+-- only Etd2, scheme 13, has a history
+unfoldable pub historyOk : History → ℕ → Bool
+historyOk Missing scheme = true
+historyOk Held scheme = eqb scheme 13
+
+-- 2: the scheme, its history, and no more answers than are asked for
+unfoldable pub good2 : Session → Bool
+good2 s = leb (s .scheme) 15 && historyOk (s .history) (s .scheme) && leb (s .count) (wanted (s .scheme) (s .n) (s .attempt))
+
+-- whether a session with this attempt and so many answers of `most` is in the phase
+unfoldable pub inPhase : Phase → Attempt → ℕ → ℕ → Bool
+inPhase Any attempt count most = true
+inPhase Rest None count most = true
+inPhase Rest Supplied count most = false
+inPhase Rest Differenced count most = false
+inPhase Asking None count most = false
+inPhase Asking Supplied count most = ltb count most
+inPhase Asking Differenced count most = ltb count most
+inPhase Waiting None count most = false
+inPhase Waiting Supplied count most = eqb count most
+inPhase Waiting Differenced count most = eqb count most
+
+-- 7: the phase that the call wants
+unfoldable pub good7 : Phase → Session → Bool
+good7 phase s = inPhase phase (s .attempt) (s .count) (wanted (s .scheme) (s .n) (s .attempt))
+
+-- a tolerance is finite and positive
+unfoldable pub positive : Float → Bool
+positive x = finite x && lt zero+ x
+
+-- 4: the tolerances
+unfoldable pub good4 : Session → Bool
+good4 s = positive (s .relative) && positive (s .absolute)
+
+-- a step is finite and not zero
+unfoldable pub stepOk : Float → Bool
+stepOk step = finite step && not (eq step zero+)
+
+-- 5: the attempt's step
+unfoldable pub good5 : Attempt → Float → Bool
+good5 None step = true
+good5 Supplied step = stepOk step
+good5 Differenced step = stepOk step
+
+-- 3: every other number
+unfoldable pub good3 : Session → Bool
+good3 s = finite (s .time) && allFinite (s .state) && allFinite (s .derivative) && allFinite (s .previous) && allFinite (s .jacobian) && allFinite (s .answers)
+
+-- a condition, the number that is given where it fails, and the tests after it; 0 is no refusal
+abbrev pub test : Bool → ℕ → ℕ → ℕ
+test condition number next = cond condition next number
+
+-- the number by which a session is refused, in the order 1, 2, 7, 4, 5, 3
+unfoldable pub fault : Phase → Session → ℕ
+fault phase s =
+    test (good1 s) 1
+    (test (good2 s) 2
+    (test (good7 phase s) 7
+    (test (good4 s) 4
+    (test (good5 (s .attempt) (s .step)) 5
+    (test (good3 s) 3 0)))))
+
+-- what every session that is not refused has
+pub record Sound (s : Session) : Type 0 where
+  pub some : 1 ≤ s .n
+  pub small : s .n ≤ 16
+  pub scheme : s .scheme ≤ 15
+  pub enough : s .count ≤ wanted (s .scheme) (s .n) (s .attempt)
+
+-- ---- the attempt, as far as its answers go
+
+-- whether there is a history
+unfoldable pub isHeld : History → Bool
+isHeld Missing = false
+isHeld Held = true
+
+-- what the schemes start from
+unfoldable pub pointOf : Session → Point
+pointOf s = record { n = s .n; time = s .time; step = s .step; state = s .state; f0 = s .derivative; held = isHeld (s .history); previous = s .previous }
+
+-- the step with the Jacobian a, over the answers from the j-th on
+abbrev pub stepped : Session → List Float → ℕ → Progress
+stepped s a j = performStep (s .scheme) (pointOf s) a (s .count - j) j (s .answers)
+
+-- a column's question; its time is the run's
+unfoldable pub question : List Float → Float → Progress
+question x time = cond (allFinite x) (asking x time) refused
+
+-- column by column: every answered one is tested, then the next is asked, or the step goes on with the Jacobian that they give
+unfoldable pub differencing : Session → Progress
+differencing s =
+    let column = columnOk (s .n) (s .state) (s .derivative) (s .answers) in
+    let jacobian = mat (s .n) (jacobianEntry (s .state) (s .derivative) (s .answers)) in
+    cond (ltb (s .count) (s .n))
+    (cond (every (s .count) column) (question (perturbed (s .n) (s .state) (s .count)) (s .time)) refused)
+    (cond (every (s .n) column) (stepped s jacobian (s .n)) refused)
+
+-- by the kind of attempt
+unfoldable pub progressOf : Attempt → Session → Progress
+progressOf None s = refused
+progressOf Supplied s = stepped s (take (s .n * s .n) (s .jacobian)) 0
+progressOf Differenced s = differencing s
+
+-- where the attempt stands
+unfoldable pub progress : Session → Progress
+progress s = progressOf (s .attempt) s

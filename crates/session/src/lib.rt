@@ -1,0 +1,899 @@
+// general.rs and document 01's session: the record, what a call refuses it for, the attempt as far as its answers go, the calls, and the
+// bare calls.
+ghost use mathlib.Core.Path.{_≡_};
+ghost use Prim.Native.Nat.{ℕ, _+_, _-_, _*_, _≤_, _<_};
+ghost use lib.ListN.{length, take};
+ghost use Rattle.loops.specs.Loop.{mat};
+ghost use Rattle.methods.specs.Step.{refused, performStep};
+ghost use Rattle.methods.specs.Step.{progress as reached};
+ghost use Rattle.engine.specs.Engine.{jacobianEntry};
+ghost use Rattle.session.specs.Session.{usedHistory, usedJacobian, stepClear, wanted, runPlaces, attemptPlaces, good1, historyOk, good2, inPhase, positive, stepOk, good5, good3, fault, Sound, isHeld, pointOf, stepped, question, differencing, progress};
+ghost use Rattle.session.specs.Calls.{outcome, opened, nothing, begun, answered, moved, readyOf, answerOf, shown, arrived, settled, faultVector, attemptOf, faultBegin, openCall, beginCall, supplyCall, acceptCall, dropCall, firstStepCall};
+ghost use Rattle.session.specs.Bare.{bare, faultExponential, exponentialCall, faultPhi, phiCall, faultNorm, normCall};
+
+mod places;
+
+// Whether there is an Etd2 history.
+pub enum History {
+    Missing,
+    Held,
+}
+
+// Whether there is an attempt, and whether its Jacobian is supplied or differenced.
+pub enum Attempt {
+    None,
+    Supplied,
+    Differenced,
+}
+
+// What begin is handed: a Jacobian, or the wish to difference.
+pub enum Wish {
+    Given,
+    Difference,
+}
+
+// What a call tells the host. Ask: the time of the question. Ready: the error norm, right-hand sides and Jacobians.
+pub enum Answer {
+    Ask(f64),
+    Ready(f64, u32, u32),
+    Resting,
+    FirstStep(f64),
+    Filled,
+    Norm(f64),
+    Refused(u8),
+}
+
+// A run and its attempt. Entries past n and places not in use are +0.0; the Jacobian fills the first n * n places, row by row; answer k
+// begins at place 16 k.
+pub struct Session {
+    pub scheme: u8,
+    pub n: usize,
+    pub time: f64,
+    pub state: [f64; 16],
+    pub derivative: [f64; 16],
+    pub relative: f64,
+    pub absolute: f64,
+    pub history: History,
+    pub previous: [f64; 16],
+    pub attempt: Attempt,
+    pub step: f64,
+    pub jacobian: [f64; 256],
+    pub count: usize,
+    pub answers: [f64; 320],
+}
+
+// An answer, and the session that comes back.
+pub struct Told {
+    pub answer: Answer,
+    pub session: Session,
+}
+
+// In which phase a call wants the session: any, resting, asking, or ready and waiting for accept.
+enum Phase {
+    Any,
+    Rest,
+    Asking,
+    Waiting,
+}
+
+// ---- what a session is refused for
+
+// How many answers an attempt asks for.
+fn wanted(scheme: u8, n: usize, attempt: Attempt) -> usize
+    requires { ⌜ n ≤ 16 ⌝ }
+    ensures { λ r. ⌜ (r ≡ wanted scheme n attempt) × (r ≤ 20) ⌝ }
+{
+    match attempt {
+        Attempt::None => 0,
+        Attempt::Supplied => schemes::questions(scheme),
+        Attempt::Differenced => n + schemes::questions(scheme),
+    }
+}
+
+fn used_history(h: History, n: usize) -> usize
+    ensures { λ r. ⌜ r ≡ usedHistory h n ⌝ }
+{
+    match h {
+        History::Missing => 0,
+        History::Held => n,
+    }
+}
+
+fn used_jacobian(a: Attempt, n: usize) -> usize
+    requires { ⌜ n ≤ 16 ⌝ }
+    ensures { λ r. ⌜ r ≡ usedJacobian a n ⌝ }
+{
+    match a {
+        Attempt::None => 0,
+        Attempt::Supplied => n * n,
+        Attempt::Differenced => 0,
+    }
+}
+
+fn step_clear(a: Attempt, step: f64) -> bool
+    ensures { λ r. ⌜ r ≡ stepClear a step ⌝ }
+{
+    match a {
+        Attempt::None => float::plus_zero(step),
+        Attempt::Supplied => true,
+        Attempt::Differenced => true,
+    }
+}
+
+fn run_places(s: Session) -> bool
+    ensures { λ r. ⌜ r ≡ runPlaces s ⌝ }
+{
+    let n = s.n;
+    let history = s.history;
+    let state = s.state;
+    let derivative = s.derivative;
+    let previous = s.previous;
+    places::clear(&state, n)
+        & places::clear(&derivative, n)
+        & places::clear(&previous, used_history(history, n))
+}
+
+fn attempt_places(s: Session) -> bool
+    requires { ⌜ s .n ≤ 16 ⌝ }
+    ensures { λ r. ⌜ r ≡ attemptPlaces s ⌝ }
+{
+    let n = s.n;
+    let attempt = s.attempt;
+    let jacobian = s.jacobian;
+    let answers = s.answers;
+    step_clear(attempt, s.step)
+        & places::clear(&jacobian, used_jacobian(attempt, n))
+        & places::clear_answers(&answers, s.count, n)
+}
+
+fn good1(s: Session) -> bool
+    ensures { λ r. ⌜ r ≡ good1 s ⌝ }
+{
+    let n = s.n;
+    if (1 <= n) & (n <= 16) {
+        return run_places(s) & attempt_places(s);
+    }
+    false
+}
+
+fn history_ok(h: History, scheme: u8) -> bool
+    ensures { λ r. ⌜ r ≡ historyOk h scheme ⌝ }
+{
+    match h {
+        History::Missing => true,
+        History::Held => scheme == 13,
+    }
+}
+
+fn good2(s: Session) -> bool
+    requires { ⌜ s .n ≤ 16 ⌝ }
+    ensures { λ r. ⌜ r ≡ good2 s ⌝ }
+{
+    let history = s.history;
+    let attempt = s.attempt;
+    (s.scheme <= 15) & history_ok(history, s.scheme) & (s.count <= wanted(s.scheme, s.n, attempt))
+}
+
+fn in_phase(p: Phase, a: Attempt, count: usize, most: usize) -> bool
+    ensures { λ r. ⌜ r ≡ inPhase p a count most ⌝ }
+{
+    match p {
+        Phase::Any => true,
+        Phase::Rest => match a {
+            Attempt::None => true,
+            Attempt::Supplied => false,
+            Attempt::Differenced => false,
+        },
+        Phase::Asking => match a {
+            Attempt::None => false,
+            Attempt::Supplied => count < most,
+            Attempt::Differenced => count < most,
+        },
+        Phase::Waiting => match a {
+            Attempt::None => false,
+            Attempt::Supplied => count == most,
+            Attempt::Differenced => count == most,
+        },
+    }
+}
+
+fn positive(x: f64) -> bool
+    ensures { λ r. ⌜ r ≡ positive x ⌝ }
+{
+    float::finite(x) & (0.0 < x)
+}
+
+fn step_ok(h: f64) -> bool
+    ensures { λ r. ⌜ r ≡ stepOk h ⌝ }
+{
+    float::finite(h) & !(h == 0.0)
+}
+
+fn good5(a: Attempt, step: f64) -> bool
+    ensures { λ r. ⌜ r ≡ good5 a step ⌝ }
+{
+    match a {
+        Attempt::None => true,
+        Attempt::Supplied => step_ok(step),
+        Attempt::Differenced => step_ok(step),
+    }
+}
+
+fn good3(s: Session) -> bool
+    ensures { λ r. ⌜ r ≡ good3 s ⌝ }
+{
+    let state = s.state;
+    let derivative = s.derivative;
+    let previous = s.previous;
+    let jacobian = s.jacobian;
+    let answers = s.answers;
+    float::finite(s.time)
+        & evaluation::all_finite(&state)
+        & evaluation::all_finite(&derivative)
+        & evaluation::all_finite(&previous)
+        & evaluation::all_finite(&jacobian)
+        & evaluation::all_finite(&answers)
+}
+
+// The number by which a session is refused, 0 if by none.
+fn fault(p: Phase, s: Session) -> u8
+    ensures { λ r. ⌜ r ≡ fault p s ⌝ }
+{
+    if !good1(s) {
+        return 1;
+    }
+    if !good2(s) {
+        return 2;
+    }
+    let attempt = s.attempt;
+    if !in_phase(p, attempt, s.count, wanted(s.scheme, s.n, attempt)) {
+        return 7;
+    }
+    if !(positive(s.relative) & positive(s.absolute)) {
+        return 4;
+    }
+    if !good5(attempt, s.step) {
+        return 5;
+    }
+    if !good3(s) {
+        return 3;
+    }
+    0
+}
+
+// ---- what is refused of what is handed in
+
+fn fault_vector(n: usize, x: [f64; 16], lent: bool) -> u8
+    ensures { λ r. ⌜ r ≡ faultVector n x lent ⌝ }
+{
+    if places::clear(&x, n) & lent {
+        if evaluation::all_finite(&x) {
+            return 0;
+        }
+        return 3;
+    }
+    1
+}
+
+fn attempt_of(w: Wish) -> Attempt
+    ensures { λ r. ⌜ r ≡ attemptOf w ⌝ }
+{
+    match w {
+        Wish::Given => Attempt::Supplied,
+        Wish::Difference => Attempt::Differenced,
+    }
+}
+
+fn fault_begin(n: usize, step: f64, a: Attempt, jacobian: [f64; 256], lent: usize) -> u8
+    requires { ⌜ n ≤ 16 ⌝ }
+    ensures { λ r. ⌜ r ≡ faultBegin n step a jacobian lent ⌝ }
+{
+    if places::clear(&jacobian, used_jacobian(a, n)) & (lent == n) {
+        if step_ok(step) {
+            if evaluation::all_finite(&jacobian) {
+                return 0;
+            }
+            return 3;
+        }
+        return 5;
+    }
+    1
+}
+
+// ---- the attempt, as far as its answers go
+
+fn is_held(h: History) -> bool
+    ensures { λ r. ⌜ r ≡ isHeld h ⌝ }
+{
+    match h {
+        History::Missing => false,
+        History::Held => true,
+    }
+}
+
+fn point_of(s: Session) -> methods::Point
+    ensures { λ r. ⌜ r ≡ pointOf s ⌝ }
+{
+    let history = s.history;
+    let state = s.state;
+    let f0 = s.derivative;
+    let previous = s.previous;
+    let held = is_held(history);
+    methods::Point {
+        n: s.n,
+        time: s.time,
+        step: s.step,
+        state: state,
+        f0: f0,
+        held: held,
+        previous: previous,
+    }
+}
+
+// An attempt that is refused by 6.
+fn not_allowed() -> methods::StepResult
+    ensures { λ r. ⌜ reached r ≡ refused ⌝ }
+{
+    methods::StepResult {
+        ok: false,
+        kind: methods::Kind::Done,
+        state: [0.0; 16],
+        error: [0.0; 16],
+        nonlinear: [0.0; 16],
+    }
+}
+
+// A column's question.
+fn asked(x: [f64; 16], time: f64) -> methods::StepResult
+    ensures { λ r. ⌜ reached r ≡ question x time ⌝ }
+{
+    methods::StepResult {
+        ok: evaluation::all_finite(&x),
+        kind: methods::Kind::Question(time),
+        state: x,
+        error: [0.0; 16],
+        nonlinear: [0.0; 16],
+    }
+}
+
+// All columns are answered: the step with the Jacobian that they give.
+fn stepped_from(s: Session, answers: &[f64], a: &mut [f64]) -> methods::StepResult
+    requires { ⌜ Sound s ⌝ }
+    requires { ⌜ (s .n ≤ s .count) × (s .count ≤ s .n + 4) ⌝ }
+    requires { ⌜ (now answers ≡ s .answers) × (length (now answers) ≡ 320) ⌝ }
+    requires { ⌜ length (now a) ≡ s .n * s .n ⌝ }
+    ensures { λ r. ⌜ reached r ≡ stepped s (mat (s .n) (jacobianEntry (s .state) (s .derivative) (s .answers))) (s .n) ⌝ }
+{
+    let n = s.n;
+    let state = s.state;
+    let f0 = s.derivative;
+    engine::jacobian_into(state, f0, answers, n, &mut *a);
+    schemes::perform_step(s.scheme, point_of(s), &*a, answers, n, s.count - n)
+}
+
+fn differencing(s: Session, answers: &[f64]) -> methods::StepResult
+    requires { ⌜ Sound s ⌝ }
+    requires { ⌜ s .count ≤ s .n + 4 ⌝ }
+    requires { ⌜ (now answers ≡ s .answers) × (length (now answers) ≡ 320) ⌝ }
+    ensures { λ r. ⌜ reached r ≡ differencing s ⌝ }
+{
+    let n = s.n;
+    let count = s.count;
+    let state = s.state;
+    let f0 = s.derivative;
+    if count < n {
+        if engine::columns_ok(state, f0, answers, n, count) {
+            return asked(engine::perturbed(state, count, n), s.time);
+        }
+        return not_allowed();
+    }
+    if engine::columns_ok(state, f0, answers, n, n) {
+        let size = n * n;
+        let mut a = [0.0; 256];
+        return stepped_from(s, answers, &mut a[..size]);
+    }
+    not_allowed()
+}
+
+fn differenced(s: Session) -> methods::StepResult
+    requires { ⌜ Sound s ⌝ }
+    requires { ⌜ s .count ≤ s .n + 4 ⌝ }
+    ensures { λ r. ⌜ reached r ≡ differencing s ⌝ }
+{
+    let answers = s.answers;
+    differencing(s, &answers)
+}
+
+fn supplied(s: Session) -> methods::StepResult
+    requires { ⌜ Sound s ⌝ }
+    requires { ⌜ s .count ≤ 4 ⌝ }
+    ensures { λ r. ⌜ reached r ≡ stepped s (take (s .n * s .n) (s .jacobian)) 0 ⌝ }
+{
+    let n = s.n;
+    let size = n * n;
+    let jacobian = s.jacobian;
+    let answers = s.answers;
+    schemes::perform_step(s.scheme, point_of(s), &jacobian[..size], &answers, 0, s.count)
+}
+
+fn run_pass(s: Session) -> methods::StepResult
+    requires { ⌜ Sound s ⌝ }
+    ensures { λ r. ⌜ reached r ≡ progress s ⌝ }
+{
+    let attempt = s.attempt;
+    match attempt {
+        Attempt::None => not_allowed(),
+        Attempt::Supplied => supplied(s),
+        Attempt::Differenced => differenced(s),
+    }
+}
+
+// ---- the session that comes back
+
+// The run of s with another attempt, or without one.
+fn begun(s: Session, step: f64, attempt: Attempt, jacobian: [f64; 256]) -> Session
+    ensures { λ r. ⌜ r ≡ begun s step attempt jacobian ⌝ }
+{
+    let state = s.state;
+    let derivative = s.derivative;
+    let history = s.history;
+    let previous = s.previous;
+    Session {
+        scheme: s.scheme,
+        n: s.n,
+        time: s.time,
+        state: state,
+        derivative: derivative,
+        relative: s.relative,
+        absolute: s.absolute,
+        history: history,
+        previous: previous,
+        attempt: attempt,
+        step: step,
+        jacobian: jacobian,
+        count: 0,
+        answers: [0.0; 320],
+    }
+}
+
+// s with one answer more.
+fn answered(s: Session, answer: [f64; 16]) -> Session
+    requires { ⌜ s .count < 20 ⌝ }
+    ensures { λ r. ⌜ r ≡ answered s answer ⌝ }
+{
+    let count = s.count;
+    let answers = s.answers;
+    let mut r = s;
+    let all = places::put(answers, count, answer);
+    r.answers = all;
+    r.count = count + 1;
+    r
+}
+
+// A session with no attempt.
+fn opened(
+    scheme: u8,
+    n: usize,
+    time: f64,
+    state: [f64; 16],
+    derivative: [f64; 16],
+    relative: f64,
+    absolute: f64,
+    history: History,
+    previous: [f64; 16],
+) -> Session
+    ensures { λ r. ⌜ r ≡ opened scheme n time state derivative relative absolute history previous ⌝ }
+{
+    Session {
+        scheme: scheme,
+        n: n,
+        time: time,
+        state: state,
+        derivative: derivative,
+        relative: relative,
+        absolute: absolute,
+        history: history,
+        previous: previous,
+        attempt: Attempt::None,
+        step: 0.0,
+        jacobian: [0.0; 256],
+        count: 0,
+        answers: [0.0; 320],
+    }
+}
+
+// What a refused open returns.
+fn nothing() -> Session
+    ensures { λ r. ⌜ r ≡ nothing ⌝ }
+{
+    opened(
+        0,
+        0,
+        0.0,
+        [0.0; 16],
+        [0.0; 16],
+        0.0,
+        0.0,
+        History::Missing,
+        [0.0; 16],
+    )
+}
+
+// s moved to a time and a state; Etd2 keeps the nonlinear part.
+fn moved(s: Session, time: f64, state: [f64; 16], derivative: [f64; 16], nonlinear: [f64; 16]) -> Session
+    ensures { λ r. ⌜ r ≡ moved s time state derivative nonlinear ⌝ }
+{
+    let previous = s.previous;
+    let history = s.history;
+    if s.scheme == 13 {
+        return opened(
+            s.scheme,
+            s.n,
+            time,
+            state,
+            derivative,
+            s.relative,
+            s.absolute,
+            History::Held,
+            nonlinear,
+        );
+    }
+    opened(
+        s.scheme,
+        s.n,
+        time,
+        state,
+        derivative,
+        s.relative,
+        s.absolute,
+        history,
+        previous,
+    )
+}
+
+// ---- what is told
+
+fn ready_of(s: Session, candidate: [f64; 16], error: [f64; 16]) -> Answer
+    requires { ⌜ Sound s ⌝ }
+    ensures { λ r. ⌜ r ≡ readyOf s candidate error ⌝ }
+{
+    let n = s.n;
+    let attempt = s.attempt;
+    let state = s.state;
+    let rhs = wanted(s.scheme, n, attempt);
+    if (s.scheme == 14) | (s.scheme == 15) {
+        let norm = engine::scaled_error_norm(n, s.relative, s.absolute, state, candidate, error);
+        return Answer::Ready(norm, rhs as u32, 1);
+    }
+    Answer::Ready(0.0, rhs as u32, 1)
+}
+
+fn answer_of(s: Session, kind: methods::Kind, x: [f64; 16], e: [f64; 16]) -> Answer
+    requires { ⌜ Sound s ⌝ }
+    ensures { λ r. ⌜ r ≡ answerOf s kind x e ⌝ }
+{
+    match kind {
+        methods::Kind::Question(t) => Answer::Ask(t),
+        methods::Kind::Done => ready_of(s, x, e),
+    }
+}
+
+// What is told of a session with an attempt; the old one goes back where it is refused.
+fn show(old: Session, s: Session, out: &mut [f64]) -> Told
+    requires { ⌜ Sound s ⌝ }
+    requires { ⌜ length (now out) ≡ s .n ⌝ }
+    ensures { λ r. ⌜ outcome r (now (out .exit)) ≡ shown old s (now (out .entry)) (progress s) ⌝ }
+{
+    let w = run_pass(s);
+    if w.ok {
+        let kind = w.kind;
+        let x = w.state;
+        let e = w.error;
+        places::copy_out(x, &mut *out);
+        let answer = answer_of(s, kind, x, e);
+        return Told {
+            answer: answer,
+            session: s,
+        };
+    }
+    Told {
+        answer: Answer::Refused(6),
+        session: old,
+    }
+}
+
+// The candidate becomes the state; refused where the time is not finite.
+fn arrive(s: Session, candidate: [f64; 16], derivative: [f64; 16], nonlinear: [f64; 16]) -> Told
+    ensures { λ r. ⌜ r ≡ arrived s candidate derivative nonlinear ⌝ }
+{
+    let t = s.time + s.step;
+    if float::finite(t) {
+        let next = moved(s, t, candidate, derivative, nonlinear);
+        return Told {
+            answer: Answer::Resting,
+            session: next,
+        };
+    }
+    Told {
+        answer: Answer::Refused(6),
+        session: s,
+    }
+}
+
+fn settle(s: Session, derivative: [f64; 16]) -> Told
+    requires { ⌜ Sound s ⌝ }
+    ensures { λ r. ⌜ r ≡ settled s derivative (progress s) ⌝ }
+{
+    let w = run_pass(s);
+    let kind = w.kind;
+    let candidate = w.state;
+    let nonlinear = w.nonlinear;
+    if w.ok {
+        if let methods::Kind::Done = kind {
+            return arrive(s, candidate, derivative, nonlinear);
+        }
+    }
+    Told {
+        answer: Answer::Refused(6),
+        session: s,
+    }
+}
+
+// ---- the calls
+
+impl Session {
+    // Opens a run: it rests.
+    pub fn open(
+        scheme: u8,
+        n: usize,
+        time: f64,
+        state: [f64; 16],
+        derivative: [f64; 16],
+        relative: f64,
+        absolute: f64,
+        history: History,
+        previous: [f64; 16],
+    ) -> Told
+        ensures { λ r. ⌜ r ≡ openCall scheme n time state derivative relative absolute history previous ⌝ }
+    {
+        let s = opened(
+            scheme,
+            n,
+            time,
+            state,
+            derivative,
+            relative,
+            absolute,
+            history,
+            previous,
+        );
+        let k = fault(Phase::Any, s);
+        if k == 0 {
+            return Told {
+                answer: Answer::Resting,
+                session: s,
+            };
+        }
+        let none = nothing();
+        Told {
+            answer: Answer::Refused(k),
+            session: none,
+        }
+    }
+
+    // Begins an attempt: the first question, or the candidate where there is none, fills `out`.
+    pub fn begin(self, step: f64, wish: Wish, jacobian: [f64; 256], out: &mut [f64]) -> Told
+        ensures { λ r. ⌜ outcome r (now (out .exit)) ≡ beginCall self step wish jacobian (now (out .entry)) ⌝ }
+    {
+        let k = fault(Phase::Rest, self);
+        if k == 0 {
+            let a = attempt_of(wish);
+            let k2 = fault_begin(self.n, step, a, jacobian, out.len());
+            if k2 == 0 {
+                return show(self, begun(self, step, a, jacobian), &mut *out);
+            }
+            return Told {
+                answer: Answer::Refused(k2),
+                session: self,
+            };
+        }
+        Told {
+            answer: Answer::Refused(k),
+            session: self,
+        }
+    }
+
+    // Supplies the derivative that was asked for: the next question, or the candidate, fills `out`.
+    pub fn supply(self, answer: [f64; 16], out: &mut [f64]) -> Told
+        ensures { λ r. ⌜ outcome r (now (out .exit)) ≡ supplyCall self answer (now (out .entry)) ⌝ }
+    {
+        let k = fault(Phase::Asking, self);
+        if k == 0 {
+            let k2 = fault_vector(self.n, answer, out.len() == self.n);
+            if k2 == 0 {
+                return show(self, answered(self, answer), &mut *out);
+            }
+            return Told {
+                answer: Answer::Refused(k2),
+                session: self,
+            };
+        }
+        Told {
+            answer: Answer::Refused(k),
+            session: self,
+        }
+    }
+
+    // Accepts the candidate, with the derivative there.
+    pub fn accept(self, derivative: [f64; 16]) -> Told
+        ensures { λ r. ⌜ r ≡ acceptCall self derivative ⌝ }
+    {
+        let k = fault(Phase::Waiting, self);
+        if k == 0 {
+            let k2 = fault_vector(self.n, derivative, true);
+            if k2 == 0 {
+                return settle(self, derivative);
+            }
+            return Told {
+                answer: Answer::Refused(k2),
+                session: self,
+            };
+        }
+        Told {
+            answer: Answer::Refused(k),
+            session: self,
+        }
+    }
+
+    // Drops the attempt, if there is one.
+    pub fn drop(self) -> Told
+        ensures { λ r. ⌜ r ≡ dropCall self ⌝ }
+    {
+        let k = fault(Phase::Any, self);
+        if k == 0 {
+            let rest = begun(self, 0.0, Attempt::None, [0.0; 256]);
+            return Told {
+                answer: Answer::Resting,
+                session: rest,
+            };
+        }
+        Told {
+            answer: Answer::Refused(k),
+            session: self,
+        }
+    }
+
+    // The first step that the run's figures suggest, at most `largest`.
+    pub fn first_step(self, largest: f64) -> Told
+        ensures { λ r. ⌜ r ≡ firstStepCall self largest ⌝ }
+    {
+        let k = fault(Phase::Any, self);
+        if k == 0 {
+            if 2.220446049250313e-16 <= largest {
+                let state = self.state;
+                let derivative = self.derivative;
+                let h = engine::estimate_initial_step(
+                    self.n,
+                    self.relative,
+                    self.absolute,
+                    state,
+                    derivative,
+                    largest,
+                );
+                return Told {
+                    answer: Answer::FirstStep(h),
+                    session: self,
+                };
+            }
+            return Told {
+                answer: Answer::Refused(5),
+                session: self,
+            };
+        }
+        Told {
+            answer: Answer::Refused(k),
+            session: self,
+        }
+    }
+}
+
+// ---- the bare calls
+
+fn fault_exponential(size: usize, m: &[f64], lent: usize) -> u8
+    ensures { λ r. ⌜ r ≡ faultExponential size (now (m .entry)) lent ⌝ }
+{
+    if (1 <= size) & (size <= 20) {
+        if (m.len() == size * size) & (lent == size * size) {
+            if evaluation::all_finite(m) {
+                return 0;
+            }
+            return 3;
+        }
+    }
+    1
+}
+
+// The exponential of a matrix of size 1 to 20, into `out`.
+pub fn exponential(size: usize, m: &[f64], out: &mut [f64]) -> Answer
+    ensures { λ r. ⌜ bare r (now (out .exit)) ≡ exponentialCall size (now (m .entry)) (now (out .entry)) ⌝ }
+{
+    let k = fault_exponential(size, m, out.len());
+    if k == 0 {
+        if matrix::matrix_exp(m, &mut *out, size) {
+            return Answer::Filled;
+        }
+        return Answer::Refused(6);
+    }
+    Answer::Refused(k)
+}
+
+fn fault_phi(n: usize, order: usize, scale_a: f64, a: &[f64], input: &[f64], lent: usize) -> u8
+    ensures { λ r. ⌜ r ≡ faultPhi n order «scale_a» (now (a .entry)) (now (input .entry)) lent ⌝ }
+{
+    if (1 <= n) & (n <= 16) & (1 <= order) & (order <= 4) {
+        if (a.len() == n * n) & (input.len() == n) & (lent == n) {
+            if float::finite(scale_a) & evaluation::all_finite(a) & evaluation::all_finite(input) {
+                return 0;
+            }
+            return 3;
+        }
+    }
+    1
+}
+
+// The phi action of order 1 to 4 on n numbers, into `out`.
+pub fn phi_action(n: usize, order: usize, scale_a: f64, a: &[f64], input: &[f64], out: &mut [f64]) -> Answer
+    ensures { λ r. ⌜ bare r (now (out .exit)) ≡ phiCall n order «scale_a» (now (a .entry)) (now (input .entry)) (now (out .entry)) ⌝ }
+{
+    let k = fault_phi(n, order, scale_a, a, input, out.len());
+    if k == 0 {
+        let action = methods::phi_action(a, scale_a, order, places::vector(input, n), n);
+        if action.ok {
+            let v = action.v;
+            places::copy_out(v, &mut *out);
+            return Answer::Filled;
+        }
+        return Answer::Refused(6);
+    }
+    Answer::Refused(k)
+}
+
+fn fault_norm(
+    n: usize,
+    relative: f64,
+    absolute: f64,
+    error: [f64; 16],
+    state: [f64; 16],
+    candidate: [f64; 16],
+) -> u8
+    ensures { λ r. ⌜ r ≡ faultNorm n relative absolute error state candidate ⌝ }
+{
+    if (1 <= n) & (n <= 16) & places::clear(&error, n) & places::clear(&state, n) & places::clear(&candidate, n) {
+        if positive(relative) & positive(absolute) {
+            if evaluation::all_finite(&error) & evaluation::all_finite(&state) & evaluation::all_finite(&candidate) {
+                return 0;
+            }
+            return 3;
+        }
+        return 4;
+    }
+    1
+}
+
+// The error norm of n entries.
+pub fn error_norm(
+    n: usize,
+    relative: f64,
+    absolute: f64,
+    error: [f64; 16],
+    state: [f64; 16],
+    candidate: [f64; 16],
+) -> Answer
+    ensures { λ r. ⌜ r ≡ normCall n relative absolute error state candidate ⌝ }
+{
+    let k = fault_norm(n, relative, absolute, error, state, candidate);
+    if k == 0 {
+        return Answer::Norm(engine::scaled_error_norm(n, relative, absolute, state, candidate, error));
+    }
+    Answer::Refused(k)
+}

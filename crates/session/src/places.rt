@@ -1,0 +1,65 @@
+// Places of an array: which are in use, and copies.
+ghost use mathlib.Core.Path.{_≡_};
+ghost use Prim.Native.Nat.{_*_, _≤_, _<_};
+ghost use lib.ListN.{length};
+ghost use Rattle.loops.specs.Loop.{tab, stores, _!_};
+ghost use Rattle.matrix.specs.Vector.{vec};
+ghost use Rattle.session.specs.Session.{clear, clearAnswers};
+
+// Whether the places from `used` on are +0.0.
+pub fn clear(x: &[f64], used: usize) -> bool
+    ensures { λ r. ⌜ r ≡ clear used (now (x .entry)) ⌝ }
+{
+    let mut ok = true;
+    for i in 0..x.len() {
+        ok = ok & ((i < used) | float::plus_zero(x[i]));
+    }
+    ok
+}
+
+// Whether the places that hold no entry of an answer are +0.0.
+pub fn clear_answers(x: &[f64], count: usize, n: usize) -> bool
+    ensures { λ r. ⌜ r ≡ clearAnswers count n (now (x .entry)) ⌝ }
+{
+    let mut ok = true;
+    for i in 0..x.len() {
+        ok = ok & (((i / 16 < count) & (i % 16 < n)) | float::plus_zero(x[i]));
+    }
+    ok
+}
+
+// The first places of x into all of out.
+pub fn copy_out(x: [f64; 16], out: &mut [f64])
+    requires { ⌜ length (now out) ≤ 16 ⌝ }
+    ensures { λ _. ⌜ now (out .exit) ≡ tab (length (now (out .entry))) (λ i. x ! i) ⌝ }
+{
+    for i in 0..out.len() {
+        out[i] = x[i];
+    }
+}
+
+// The n numbers of x as a vector.
+pub fn vector(x: &[f64], n: usize) -> [f64; 16]
+    requires { ⌜ n ≤ 16 ⌝ }
+    requires { ⌜ length (now x) ≡ n ⌝ }
+    ensures { λ r. ⌜ r ≡ vec n (λ i. now (x .entry) ! i) ⌝ }
+{
+    let mut out = [0.0; 16];
+    for i in 0..n {
+        out[i] = x[i];
+    }
+    out
+}
+
+// x stored among the answers as the k-th.
+pub fn put(answers: [f64; 320], k: usize, x: [f64; 16]) -> [f64; 320]
+    requires { ⌜ k < 20 ⌝ }
+    ensures { λ r. ⌜ r ≡ stores (λ i _. x ! i) (16 * k) 16 answers ⌝ }
+{
+    let mut all = answers;
+    let at = 16 * k;
+    for i in 0..16 {
+        all[at + i] = x[i];
+    }
+    all
+}

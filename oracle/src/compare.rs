@@ -1,0 +1,73 @@
+//! A console of the port beside the model, over many random scripts, byte by byte.
+
+use crate::bytes::Reader;
+use crate::console::{Console, read_call};
+use crate::random_script::random_script;
+use crate::script::Tally;
+use std::io::{self, Write};
+use std::path::Path;
+use std::process::{Command, Stdio};
+
+/// Calls per script.
+const CALLS: usize = 1000;
+
+/// Feeds a script to the program and gives what it writes.
+pub fn replies_of(program: &Path, script: &[u8]) -> io::Result<Vec<u8>> {
+    let mut child = Command::new(program).stdin(Stdio::piped()).stdout(Stdio::piped()).spawn()?;
+    let mut input = child.stdin.take().expect("it is piped");
+    let script = script.to_vec();
+    // A program that stops reading is judged by what it wrote.
+    let feeder = std::thread::spawn(move || drop(input.write_all(&script)));
+    let output = child.wait_with_output()?;
+    let _ = feeder.join();
+    Ok(output.stdout)
+}
+
+/// Where two replies part: the call's number from 0, what it is, and the place in its reply.
+pub fn first_difference(script: &[u8], replies: &[u8]) -> Option<String> {
+    let mut console = Console::default();
+    let mut reader = Reader::new(script);
+    let mut before = 0;
+    let mut number = 0;
+    while let Some(call) = read_call(&mut reader) {
+        let mut reply = Vec::new();
+        let told = console.call(&call, &mut reply);
+        let theirs = &replies[before.min(replies.len())..(before + reply.len()).min(replies.len())];
+        if theirs != reply {
+            let same = theirs.iter().zip(&reply).take_while(|(a, b)| a == b).count();
+            let words = format!("{call:?}");
+            let short: String = words.chars().take(400).collect();
+            return Some(format!(
+                "call {number} differs at byte {same} of its reply of {} bytes\n  {short}\n  \
+                 the model tells {:?}, the program outcome, refusal {:?}",
+                reply.len(),
+                told.answer,
+                &theirs[..theirs.len().min(2)],
+            ));
+        }
+        before += reply.len();
+        number += 1;
+    }
+    (replies.len() > before).then(|| format!("{} bytes too many", replies.len() - before))
+}
+
+/// Runs so many scripts from a seed on; tells the outcomes, and whether every byte was the model's.
+pub fn run(program: &Path, scripts: u64, seed: u64) -> io::Result<bool> {
+    let mut tally = Tally::default();
+    for turn in 0..scripts {
+        let script = random_script(seed + turn, CALLS);
+        let replies = replies_of(program, &script.bytes)?;
+        if let Some(difference) = first_difference(&script.bytes, &replies) {
+            eprintln!("\nscript {}: {difference}", seed + turn);
+            return Ok(false);
+        }
+        tally.add(&script.tally);
+        if turn % 10 == 9 || turn + 1 == scripts {
+            eprint!("\r{} of {scripts} scripts, {} calls", turn + 1, tally.calls());
+        }
+    }
+    eprintln!();
+    println!("{} calls in {scripts} scripts, every reply the same", tally.calls());
+    print!("{}", tally.report());
+    Ok(true)
+}

@@ -1,0 +1,471 @@
+//! Random scripts: a host that steps along a field, and now and then errs, damages a frame, forges a session, or
+//! calls out of turn.
+
+use crate::bits::power_of_two;
+use crate::console::Call;
+use crate::field::Field;
+use crate::model::{ANSWERS, Answer, Attempt, Matrix, Opening, PLACES, Session, Vector};
+use crate::pass::{ETD2, QUESTIONS};
+use crate::random::Random;
+use crate::script::Script;
+
+/// A script of about so many calls.
+pub fn random_script(seed: u64, calls: usize) -> Script {
+    let mut host = Host::new(seed);
+    while host.script.tally.calls() < calls {
+        host.turn();
+    }
+    host.script.call(&Call::Show);
+    host.script
+}
+
+/// Numbers that a test may trip over, finite or not.
+const ODD: [f64; 18] = [
+    f64::NAN,
+    f64::INFINITY,
+    f64::NEG_INFINITY,
+    0.0,
+    -0.0,
+    1.0,
+    -1.0,
+    f64::MAX,
+    f64::MIN,
+    f64::MIN_POSITIVE,
+    5e-324,
+    f64::EPSILON,
+    1.1102230246251565e-16,
+    2147483648.0,
+    2147483648.5,
+    1e20,
+    -1e200,
+    6.7e307,
+];
+
+struct Host {
+    random: Random,
+    script: Script,
+    field: Field,
+    /// What was asked last, or the candidate with its time.
+    shown: Option<(f64, Vec<f64>)>,
+    /// The number by which the last call was refused, or 0.
+    refused: u8,
+}
+
+impl Host {
+    fn new(seed: u64) -> Self {
+        let mut random = Random::new(seed);
+        let field = Field::new(1, 1.0, &mut random);
+        Self { random, script: Script::default(), field, shown: None, refused: 0 }
+    }
+
+    fn session(&self) -> &Session {
+        &self.script.console.session
+    }
+
+    /// The session's dimension, brought within the places if it is forged.
+    fn n(&self) -> usize {
+        usize::from(self.session().n).clamp(1, PLACES)
+    }
+
+    fn call(&mut self, call: Call) {
+        let at = self.session().time;
+        let told = self.script.call(&call);
+        self.refused = 0;
+        match told.answer {
+            Some(Answer::Refused(number)) => self.refused = number,
+            Some(Answer::Ask { time }) => self.shown = Some((time, told.lent)),
+            Some(Answer::Ready { .. }) => {
+                let time = at + self.session().step;
+                self.shown = Some((time, told.lent));
+            }
+            _ => {}
+        }
+    }
+
+    fn turn(&mut self) {
+        match self.random.below(100) {
+            0..=3 => self.forge(),
+            4..=7 => self.bare(),
+            8..=9 => self.call(Call::Show),
+            10..=12 => {
+                let opening = self.damaged_opening();
+                self.call(Call::Open(opening));
+            }
+            13..=15 => {
+                let largest = self.largest();
+                self.call(Call::FirstStep { largest });
+            }
+            16..=17 => self.call(Call::Drop),
+            18..=25 => self.err(),
+            _ => self.forward(),
+        }
+    }
+
+    /// What a host would do next.
+    fn forward(&mut self) {
+        let session = self.session();
+        let is_session =
+            (1..=PLACES).contains(&usize::from(session.n)) && usize::from(session.scheme) < QUESTIONS.len();
+        let attempt = session.attempt;
+        // A host that was refused gives the attempt up, or the run.
+        let gives_up = self.refused != 0 && self.random.chance(2);
+        if gives_up && self.refused == 6 && attempt != Attempt::None {
+            self.call(Call::Drop);
+            return;
+        }
+        if !is_session || gives_up || (attempt == Attempt::None && self.random.chance(8)) {
+            let opening = self.opening();
+            self.call(Call::Open(opening));
+            return;
+        }
+        let columns = if attempt == Attempt::Differenced { self.n() } else { 0 };
+        let questions = columns + QUESTIONS[usize::from(self.session().scheme)];
+        let answered = usize::from(self.session().count);
+        if attempt == Attempt::None {
+            let begin = self.begin();
+            self.call(begin);
+        } else if answered < questions {
+            let answer = self.derivative();
+            self.call(Call::Supply { answer, lent: self.n() });
+        } else if self.random.chance(8) {
+            self.call(Call::Drop);
+        } else {
+            let derivative = self.derivative();
+            self.call(Call::Accept { derivative });
+        }
+    }
+
+    fn opening(&mut self) -> Opening {
+        let random = &mut self.random;
+        let n = if random.chance(4) { 1 + random.below(PLACES) } else { random.pick(&[1, 1, 2, 2, 3]) };
+        let scheme = if random.chance(6) { ETD2 } else { random.below(16) };
+        let stiffness = random.pick(&[0.0, 1.0, 1.0, 30.0, 1e3, 1e5, 1e8, 1e12]);
+        self.field = Field::new(n, stiffness, random);
+        let time = random.pick(&[0.0, 1.0, -3.5, 1e3]);
+        let size = random.pick(&[1.0, 1.0, 1.0, 1e-3, 1e3, 1e-308]);
+        let state = self.vector(n, size);
+        let held = scheme == ETD2 && self.random.chance(2);
+        let history = if held { self.vector(n, size) } else { [0.0; PLACES] };
+        let mut derivative = [0.0; PLACES];
+        derivative[..n].copy_from_slice(&self.field.at(time, &state[..n]));
+        Opening {
+            scheme: scheme as u8,
+            n: n as u8,
+            history_held: held,
+            time,
+            relative: self.random.pick(&[1e-3, 1e-6, 1.0, 1e-320]),
+            absolute: self.random.pick(&[1e-6, 1e-9, 1.0, 1e300]),
+            state,
+            derivative,
+            history,
+        }
+    }
+
+    fn damaged_opening(&mut self) -> Opening {
+        let mut opening = self.opening();
+        for _ in 0..=self.random.below(2) {
+            match self.random.below(9) {
+                0 => opening.n = self.random.pick(&[0, 17, 200, 255, 1, 16]),
+                1 => opening.scheme = self.random.pick(&[16, 17, 255, 13, 0]),
+                2 => opening.history_held = !opening.history_held,
+                3 => opening.time = self.odd(),
+                4 => opening.relative = self.odd(),
+                5 => opening.absolute = self.odd(),
+                6 => self.damage(&mut opening.state),
+                7 => self.damage(&mut opening.derivative),
+                _ => self.damage(&mut opening.history),
+            }
+        }
+        opening
+    }
+
+    fn begin(&mut self) -> Call {
+        let n = self.n();
+        let mut jacobian: Matrix = [0.0; PLACES * PLACES];
+        let supplied = !self.random.chance(3);
+        if supplied {
+            let state = self.session().state[..n].to_vec();
+            let entries = match self.random.below(6) {
+                0 => (0..n * n).map(|_| 3.0 * self.random.unit()).collect(),
+                1 => {
+                    // One damaged word.
+                    let mut entries = self.field_jacobian(&state);
+                    let place = self.random.below(n * n);
+                    entries[place] = self.word();
+                    entries
+                }
+                _ => self.field_jacobian(&state),
+            };
+            jacobian[..n * n].copy_from_slice(&entries);
+        }
+        Call::Begin { supplied, step: self.step(), jacobian: Box::new(jacobian), lent: n }
+    }
+
+    /// The field's, if the field is of the session's dimension.
+    fn field_jacobian(&mut self, state: &[f64]) -> Vec<f64> {
+        if self.field.dimension() == state.len() {
+            self.field.jacobian(state)
+        } else {
+            vec![0.25; state.len() * state.len()]
+        }
+    }
+
+    fn step(&mut self) -> f64 {
+        match self.random.below(12) {
+            0 => self.random.unit() * power_of_two(self.random.below(40) as i32 - 30),
+            1 => -0.01,
+            2 => 1e-160,
+            3 => power_of_two(self.random.below(2000) as i32 - 1000),
+            _ => self.random.pick(&[0.1, 0.01, 0.03125, 1.0, 1e-4]),
+        }
+    }
+
+    /// The derivative at what was shown last; now and then a number that has nothing to do with it.
+    fn derivative(&mut self) -> Vector {
+        let n = self.n();
+        let mut derivative = [0.0; PLACES];
+        let fits = |shown: &&(f64, Vec<f64>)| shown.1.len() == n;
+        match self.shown.as_ref().filter(fits) {
+            Some((time, state)) if self.field.dimension() == n && !self.random.chance(10) => {
+                derivative[..n].copy_from_slice(&self.field.at(*time, state));
+            }
+            _ => {
+                let size = self.random.pick(&[1.0, 1e3, 1e10, 1e305]);
+                derivative = self.vector(n, size);
+            }
+        }
+        derivative
+    }
+
+    fn vector(&mut self, n: usize, size: f64) -> Vector {
+        let mut vector = [0.0; PLACES];
+        for place in &mut vector[..n] {
+            *place = size * self.random.unit();
+        }
+        vector
+    }
+
+    fn odd(&mut self) -> f64 {
+        self.random.pick(&ODD)
+    }
+
+    /// A finite word of any size.
+    fn word(&mut self) -> f64 {
+        self.random.any_finite()
+    }
+
+    fn largest(&mut self) -> f64 {
+        if self.random.chance(3) { self.odd() } else { self.random.pick(&[0.005, 1.0, f64::INFINITY, 1e-10]) }
+    }
+
+    /// Puts an odd number into a place, in use or not; every other time among the first n.
+    fn damage(&mut self, places: &mut [f64]) {
+        let reach = if self.random.chance(2) { self.n() } else { places.len() };
+        let place = self.random.below(reach.min(places.len()));
+        places[place] = self.odd();
+    }
+
+    /// Odd lengths, and mostly the right one.
+    fn lent(&mut self, right: usize) -> usize {
+        if self.random.chance(3) {
+            let longer = (right + 1).min(512);
+            self.random.pick(&[0, longer, right.saturating_sub(1), 16, 512])
+        } else {
+            right
+        }
+    }
+
+    /// A call out of turn, or with something wrong in what it hands in.
+    fn err(&mut self) {
+        let n = self.n();
+        let call = match self.random.below(4) {
+            0 => {
+                let Call::Begin { mut supplied, mut step, mut jacobian, .. } = self.begin() else {
+                    unreachable!()
+                };
+                match self.random.below(4) {
+                    0 => step = self.odd(),
+                    1 => supplied = !supplied,
+                    2 => self.damage(&mut jacobian[..]),
+                    _ => {}
+                }
+                let lent = self.lent(n);
+                Call::Begin { supplied, step, jacobian, lent }
+            }
+            1 | 2 => {
+                let mut answer = self.derivative();
+                if self.random.chance(2) {
+                    self.damage(&mut answer);
+                }
+                Call::Supply { answer, lent: self.lent(n) }
+            }
+            _ => {
+                let mut derivative = self.derivative();
+                if self.random.chance(2) {
+                    self.damage(&mut derivative);
+                }
+                Call::Accept { derivative }
+            }
+        };
+        self.call(call);
+    }
+
+    /// Loads a session that no call made, and makes a few calls with it.
+    fn forge(&mut self) {
+        let mut session = if self.random.chance(2) { self.consistent() } else { self.session().clone() };
+        if !self.random.chance(3) {
+            for _ in 0..=self.random.below(3) {
+                self.tamper(&mut session);
+            }
+        }
+        self.script.call(&Call::Load(Box::new(session)));
+        for _ in 0..=self.random.below(3) {
+            match self.random.below(8) {
+                0 => self.call(Call::Drop),
+                1 => {
+                    let largest = self.largest();
+                    self.call(Call::FirstStep { largest });
+                }
+                2 | 3 => self.err(),
+                _ => self.forward(),
+            }
+        }
+        self.call(Call::Show);
+    }
+
+    /// A session in the middle of an attempt, its answers out of the air.
+    fn consistent(&mut self) -> Session {
+        let opening = self.opening();
+        let (_, mut session) = Session::open(&opening);
+        let n = usize::from(session.n);
+        if n == 0 {
+            return session;
+        }
+        session.step = self.step();
+        let size = self.random.pick(&[0.01, 1.0, 1.0, 100.0, 1e12, 1e304]);
+        let questions = QUESTIONS[usize::from(session.scheme)];
+        let questions = if self.random.chance(2) {
+            session.attempt = Attempt::Supplied;
+            for place in &mut session.jacobian[..n * n] {
+                *place = size * self.random.unit();
+            }
+            questions
+        } else {
+            session.attempt = Attempt::Differenced;
+            questions + n
+        };
+        let count = if self.random.chance(2) { questions } else { self.random.below(questions + 1) };
+        session.count = count as u8;
+        for place in 0..count {
+            let size = if self.random.chance(8) { size * 1e4 } else { 1.0 };
+            session.answers[place] = self.vector(n, size);
+        }
+        session
+    }
+
+    fn tamper(&mut self, session: &mut Session) {
+        match self.random.below(14) {
+            0 => session.scheme = self.random.pick(&[16, 255, 13, 0, 5, 15]),
+            1 => session.n = self.random.pick(&[0, 17, 255, 1, 2, 16]),
+            2 => session.history_held = !session.history_held,
+            3 => {
+                let kinds = [Attempt::None, Attempt::Supplied, Attempt::Differenced];
+                session.attempt = self.random.pick(&kinds);
+            }
+            4 => session.count = self.random.pick(&[0, 1, 2, 3, 4, 19, 20, 21, 255]),
+            5 => session.time = self.odd(),
+            6 => session.step = self.odd(),
+            7 => session.relative = self.odd(),
+            8 => session.absolute = self.odd(),
+            9 => self.damage(&mut session.state),
+            10 => self.damage(&mut session.derivative),
+            11 => self.damage(&mut session.history),
+            12 => self.damage(&mut session.jacobian),
+            _ => {
+                let place = self.random.below(ANSWERS);
+                self.damage(&mut session.answers[place]);
+            }
+        }
+    }
+
+    fn bare(&mut self) {
+        let call = match self.random.below(3) {
+            0 => self.bare_exponential(),
+            1 => self.bare_phi_action(),
+            _ => self.bare_error_norm(),
+        };
+        self.call(call);
+    }
+
+    fn entries(&mut self, count: usize) -> Vec<f64> {
+        let size = self.random.pick(&[1e-3, 0.1, 1.0, 10.0, 300.0, 1e6, 1e9]);
+        let mut entries: Vec<f64> = (0..count).map(|_| size * self.random.unit()).collect();
+        if count > 0 && self.random.chance(5) {
+            self.damage(&mut entries);
+        }
+        entries
+    }
+
+    fn bare_exponential(&mut self) -> Call {
+        let size = if self.random.chance(6) {
+            self.random.pick(&[0, 20, 21, 255])
+        } else {
+            1 + self.random.below(8)
+        };
+        let places = (size * size).min(512);
+        let given = if self.random.chance(8) { self.lent(places) } else { places };
+        Call::Exponential {
+            size: size as u8,
+            entries: self.entries(given),
+            lent: if self.random.chance(8) { self.lent(places) } else { places },
+        }
+    }
+
+    fn bare_phi_action(&mut self) -> Call {
+        let n =
+            if self.random.chance(8) { self.random.pick(&[0, 16, 17, 22]) } else { 1 + self.random.below(6) };
+        let order = if self.random.chance(8) {
+            self.random.pick(&[0, 5, 255])
+        } else {
+            1 + self.random.below(4) as u8
+        };
+        let given = if self.random.chance(8) { self.lent(n) } else { n };
+        let scale_a = match self.random.below(8) {
+            0 => self.odd(),
+            _ => self.random.pick(&[1.0, 0.1, -0.5, 1e-3]),
+        };
+        Call::PhiAction {
+            n: n as u8,
+            order,
+            scale_a,
+            matrix: self.entries((given * given).min(512)),
+            input: self.entries(n),
+            lent: if self.random.chance(8) { self.lent(n) } else { n },
+        }
+    }
+
+    fn bare_error_norm(&mut self) -> Call {
+        let n = 1 + self.random.below(PLACES);
+        let size = self.random.pick(&[1.0, 1e-9, 1e200, 1e-300]);
+        let mut error = self.vector(n, size);
+        let mut state = self.vector(n, 1.0);
+        let mut candidate = self.vector(n, 1.0);
+        let mut tolerances = [1e-3, 1e-6];
+        if self.random.chance(3) {
+            match self.random.below(5) {
+                0 => self.damage(&mut error),
+                1 => self.damage(&mut state),
+                2 => self.damage(&mut candidate),
+                _ => self.damage(&mut tolerances),
+            }
+        }
+        Call::ErrorNorm {
+            n: if self.random.chance(10) { self.random.pick(&[0, 17, 255]) } else { n as u8 },
+            relative: tolerances[0],
+            absolute: tolerances[1],
+            error,
+            state,
+            candidate,
+        }
+    }
+}
