@@ -1,0 +1,81 @@
+-- Document 01's proved examples, each by computing. Assumes nothing.
+use Prim.Native.Nat.{ℕ}
+use mathlib.Core.Path.{refl}
+use lib.Ieee.{isNan, add, sub, mul, div, sum, lt, eq, le, neg, round, units, odd, size, span, climb, ofBits, ofFields, ofInt}
+use lib.Count.{trailingZeros}
+use Rattle.loops.specs.Loop.{iter, every, from, tab, mat, fill, stores}
+use Rattle.float.specs.Arith.{finite, plusZero, abs, larger, sumOf, most}
+use Rattle.float.specs.Root.{floorRoot, nearestRoot, root}
+use Rattle.evaluation.specs.Evaluation.{allFinite}
+use Rattle.matrix.specs.Matrix.{identity, matMul, divAll, addAll, maxAbs, rowSum, norm, admitted, enough, least, squarings, scaled, nextTerm, small, series, taylor, squared, exponential}
+use Rattle.matrix.specs.Vector.{zeros, vec, matVec}
+use Rattle.methods.specs.Numbers.{num, minus, decimal}
+use Rattle.methods.specs.Vectors.{add as plus, subtract, scale, axpy, axpyAll, combine}
+use Rattle.methods.specs.Phi.{checked, over, augmentedEntry, augmented, phiAction, phiTerm, expAction}
+use Rattle.methods.specs.Pass.{also, _>>=_, answer, replay}
+use Rattle.methods.specs.Schemes.{lawsonEuler, norsettEuler, etd2, exprb32}
+use Rattle.methods.specs.Step.{pass, questions, finish, performStep}
+use Rattle.engine.specs.Engine.{delta, perturbedEntry, perturbed, jacobianEntry, columnOk, ratio, errorNorm, rate, estimate, clamp, firstStep}
+use Rattle.session.specs.Session.{clear, clearAnswers, usedHistory, usedJacobian, stepClear, wanted, sizeOk, runPlaces, attemptPlaces, good1, historyOk, good2, inPhase, good7, positive, good4, stepOk, good5, good3, fault, isHeld, pointOf, question, differencing, progressOf, progress}
+use Rattle.session.specs.Calls.{unless, except, opened, nothing, begun, answered, hasError, readyOf, shown, faultVector, attemptOf, faultBegin, openCall, beginCall, supplyCall, firstStepCall}
+use Rattle.session.specs.Bare.{otherwise, instead, faultExponential, faultNorm, exponentialCall, normCall}
+use Rattle.examples.specs.Examples.{only, lent, resting, remembering, begins, supplies, Gives, squares, asked, differenced, jacobianOf, Examples}
+
+-- ---- what is opened to compute
+
+-- doubles
+unfoldable doubles : ℕ
+unfolding isNan add sub mul div sum lt eq le neg round units odd size span climb ofBits ofFields ofInt trailingZeros finite plusZero abs larger sumOf most num minus decimal
+doubles = 0
+
+-- loops, vectors and matrices
+unfoldable matrices : ℕ
+unfolding iter every from tab mat fill stores allFinite identity matMul divAll addAll maxAbs rowSum norm admitted enough least squarings scaled nextTerm small series taylor squared exponential zeros vec matVec plus subtract scale axpy axpyAll combine
+matrices = 0
+
+-- the schemes
+unfoldable schemes : ℕ
+unfolding checked over augmentedEntry augmented phiAction phiTerm expAction also _>>=_ answer replay lawsonEuler norsettEuler etd2 exprb32 pass questions finish performStep
+schemes = 0
+
+-- the calls
+unfoldable calls : ℕ
+unfolding delta perturbedEntry perturbed jacobianEntry columnOk clear clearAnswers usedHistory usedJacobian stepClear wanted sizeOk runPlaces attemptPlaces good1 historyOk good2 inPhase good7 positive good4 stepOk good5 good3 fault isHeld pointOf question differencing progressOf progress unless except opened nothing begun answered hasError readyOf shown faultVector attemptOf faultBegin openCall beginCall supplyCall firstStepCall only lent resting remembering begins supplies Gives asked differenced
+calls = 0
+
+-- the bare calls, the error norm and the first step
+unfoldable bare : ℕ
+unfolding floorRoot nearestRoot root ratio errorNorm rate estimate clamp firstStep otherwise instead faultExponential faultNorm exponentialCall normCall squares jacobianOf
+bare = 0
+
+-- ---- THE STATEMENT
+pub examples : Examples
+unfolding doubles matrices schemes calls bare
+examples = record {
+  norsettEuler = (refl, refl);
+  norsettEuler-half = (refl, refl);
+  norsettEuler-negated = (refl, refl);
+  lawsonEuler = (refl, refl);
+  etd2 = (refl, refl);
+  etd2-history = (refl, refl);
+  exprb32-asks = refl;
+  exprb32 = refl;
+  s-half = refl;
+  s-above-half = refl;
+  s-one = refl;
+  s-above-8 = refl;
+  s-top = refl;
+  s-above-top = refl;
+  differencing-asks = refl;
+  differencing-ready = refl;
+  differencing = refl;
+  errorNorm = refl;
+  firstStep = refl;
+  refused-1 = refl;
+  refused-2 = refl;
+  refused-3 = refl;
+  refused-4 = refl;
+  refused-5 = refl;
+  refused-6 = refl;
+  refused-7 = refl;
+}

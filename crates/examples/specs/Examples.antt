@@ -1,0 +1,126 @@
+-- Document 01's 'Proved examples', and the examples of its table of refusals, as one statement over the calls. Definitions only: proofs/Examples.antt evaluates each line.
+use Prim.Native.Nat.{ℕ}
+use mathlib.Core.Path.{_≡_}
+use mathlib.Core.List.{List, [], _∷_}
+use lib.Ieee.{Float, nan, binary64, ofBits}
+use lib.ListN.{replicate}
+use Rattle.loops.specs.Loop.{mat, _!_}
+use Rattle.float.specs.Arith.{_⊗_, zero+}
+use Rattle.matrix.specs.Matrix.{exponential}
+use Rattle.methods.specs.Numbers.{num, minus, decimal}
+use Rattle.engine.specs.Engine.{jacobianEntry}
+use Rattle.session.specs.declared.Session.{Session}
+use Rattle.session.specs.declared.Told.{Told}
+use Rattle.session.specs.declared.Answer.the-variants.{Ask, Ready, FirstStep, Norm, Refused}
+use Rattle.session.specs.declared.History.the-variants.{Missing, Held}
+use Rattle.session.specs.declared.Wish.the-variants.{Given, Difference}
+use Rattle.session.specs.Calls.{Outcome, openCall, beginCall, supplyCall, firstStepCall}
+use Rattle.session.specs.Bare.{exponentialCall, normCall}
+
+-- ---- what the lines are about: n = 1, time 0, both tolerances 1
+
+-- a vector with the entry x, and an output of one place that is lent
+unfoldable pub only : Float → List Float
+only x = x ∷ replicate 15 zero+
+
+unfoldable pub lent : List Float
+lent = zero+ ∷ []
+
+-- a scheme opened at u with the derivative f0, with and without a history
+unfoldable pub resting : ℕ → Float → Float → Told
+resting scheme u f0 = openCall scheme 1 zero+ (only u) (only f0) (num 1) (num 1) Missing (replicate 16 zero+)
+
+unfoldable pub remembering : ℕ → Float → Float → Float → Told
+remembering scheme u f0 previous = openCall scheme 1 zero+ (only u) (only f0) (num 1) (num 1) Held (only previous)
+
+-- then a step h begun with the Jacobian [j]
+unfoldable pub begins : Told → Float → Float → Outcome
+begins opened j h = beginCall (opened .session) h Given (j ∷ replicate 255 zero+) lent
+
+-- then the derivative f supplied
+unfoldable pub supplies : Outcome → Float → Outcome
+supplies begun f = supplyCall (begun .told .session) (only f) lent
+
+-- no question is asked: the step is ready at once, and its candidate is x
+unfoldable pub Gives : Outcome → Float → Type 0
+Gives r x = (r .told .answer ≡ Ready zero+ 0 1) × (r .out ≡ x ∷ [])
+
+-- the numbers of the schemes
+abbrev pub LawsonEuler : ℕ
+LawsonEuler = 0
+
+abbrev pub NorsettEuler : ℕ
+NorsettEuler = 1
+
+abbrev pub Etd2 : ℕ
+Etd2 = 13
+
+abbrev pub Exprb32 : ℕ
+Exprb32 = 14
+
+-- how often the exponential of a matrix of one entry, which is its norm, is squared; the entry is given by its bits
+unfoldable pub squares : ℕ → ℕ
+squares b = exponential (ofBits binary64 b ∷ []) 1 .squarings
+
+-- Differencing 4·u at 1: the question, the answer 4 times what was asked, and the session that then is ready
+unfoldable pub asked : Outcome
+asked = beginCall (resting NorsettEuler (num 1) (num 4) .session) (num 1) Difference (replicate 256 zero+) lent
+
+unfoldable pub differenced : Outcome
+differenced = supplies asked (num 4 ⊗ asked .out ! 0)
+
+-- its Jacobian
+unfoldable pub jacobianOf : Session → List Float
+jacobianOf s = mat 1 (jacobianEntry (s .state) (s .derivative) (s .answers))
+
+-- ---- THE STATEMENT: J = [0], u = 1, f0 = 2, h = 1 unless said
+pub record Examples : Type 0 where
+  -- 'NorsettEuler 3'
+  pub norsettEuler : Gives (begins (resting NorsettEuler (num 1) (num 2)) zero+ (num 1)) (num 3)
+  -- 'with h = 0.5, 2'
+  pub norsettEuler-half : Gives (begins (resting NorsettEuler (num 1) (num 2)) zero+ (decimal 5 1)) (num 2)
+  -- 'with u and f0 negated, −3'
+  pub norsettEuler-negated : Gives (begins (resting NorsettEuler (minus 1) (minus 2)) zero+ (num 1)) (minus 3)
+  -- 'LawsonEuler 3'
+  pub lawsonEuler : Gives (begins (resting LawsonEuler (num 1) (num 2)) zero+ (num 1)) (num 3)
+  -- 'Etd2 without history 3'
+  pub etd2 : Gives (begins (resting Etd2 (num 1) (num 2)) zero+ (num 1)) (num 3)
+  -- 'with history 1, 3.5'
+  pub etd2-history : Gives (begins (remembering Etd2 (num 1) (num 2) (num 1)) zero+ (num 1)) (decimal 35 1)
+  -- 'Exprb32 with derivative 2 supplied: error norm 0': one question, at time 1
+  pub exprb32-asks : begins (resting Exprb32 (num 1) (num 2)) zero+ (num 1) .told .answer ≡ Ask (num 1)
+  pub exprb32 : supplies (begins (resting Exprb32 (num 1) (num 2)) zero+ (num 1)) (num 2) .told .answer ≡ Ready zero+ 1 1
+  -- 's for norm 0.5 is 0'
+  pub s-half : squares 0x3fe0_0000_0000_0000 ≡ 0
+  -- 'just above 0.5, 1'
+  pub s-above-half : squares 0x3fe0_0000_0000_0001 ≡ 1
+  -- '1, 1'
+  pub s-one : squares 0x3ff0_0000_0000_0000 ≡ 1
+  -- 'just above 8, 5'
+  pub s-above-8 : squares 0x4020_0000_0000_0001 ≡ 5
+  -- '2^31, 32'
+  pub s-top : squares 0x41e0_0000_0000_0000 ≡ 32
+  -- 'Just above 2^31 is refused by 6'
+  pub s-above-top : exponentialCall 1 (ofBits binary64 0x41e0_0000_0000_0001 ∷ []) lent .answer ≡ Refused 6
+  -- 'Differencing 4·u at 1 gives 4'
+  pub differencing-asks : asked .told .answer ≡ Ask zero+
+  pub differencing-ready : differenced .told .answer ≡ Ready zero+ 1 1
+  pub differencing : jacobianOf (differenced .told .session) ≡ num 4 ∷ []
+  -- 'Bare error norm, n = 1, error −3, state and candidate 0, both tolerances 1: 3'
+  pub errorNorm : normCall 1 (num 1) (num 1) (only (minus 3)) (only zero+) (only zero+) ≡ Norm (num 3)
+  -- 'First step: tolerances 1 and 1, largest 0.005, gives 0.005'
+  pub firstStep : firstStepCall (resting NorsettEuler (num 1) (num 2) .session) (decimal 5 3) .answer ≡ FirstStep (decimal 5 3)
+  -- the table's 'open with n = 17'
+  pub refused-1 : openCall NorsettEuler 17 zero+ (only (num 1)) (only (num 2)) (num 1) (num 1) Missing (replicate 16 zero+) .answer ≡ Refused 1
+  -- 'scheme 16'
+  pub refused-2 : resting 16 (num 1) (num 2) .answer ≡ Refused 2
+  -- 'supply with a NaN'
+  pub refused-3 : supplies (begins (resting Exprb32 (num 1) (num 2)) zero+ (num 1)) nan .told .answer ≡ Refused 3
+  -- 'relative tolerance 0'
+  pub refused-4 : openCall NorsettEuler 1 zero+ (only (num 1)) (only (num 2)) zero+ (num 1) Missing (replicate 16 zero+) .answer ≡ Refused 4
+  -- 'step 0'
+  pub refused-5 : begins (resting NorsettEuler (num 1) (num 2)) zero+ zero+ .told .answer ≡ Refused 5
+  -- 'n = 1, J = [2^40], step 1'
+  pub refused-6 : begins (resting NorsettEuler (num 1) (num 2)) (ofBits binary64 0x4270_0000_0000_0000) (num 1) .told .answer ≡ Refused 6
+  -- 'supply to a resting session'
+  pub refused-7 : supplyCall (resting NorsettEuler (num 1) (num 2) .session) (only (num 2)) lent .told .answer ≡ Refused 7
