@@ -19,7 +19,7 @@ use Rattle.engine.specs.Engine.{delta, perturbedEntry, perturbed, jacobianEntry
 use Rattle.session.specs.Session.{clear, clearAnswers, usedHistory, usedJacobian, stepClear, wanted, sizeOk, runPlaces, attemptPlaces, good1, historyOk, good2, inPhase, good7, positive, good4, stepOk, good5, good3, fault, isHeld, pointOf, question, differencing, progressOf, progress}
 use Rattle.session.specs.Calls.{unless, except, opened, nothing, begun, answered, hasError, readyOf, shown, faultVector, attemptOf, faultBegin, openCall, beginCall, supplyCall, firstStepCall}
 use Rattle.session.specs.Bare.{otherwise, instead, faultExponential, faultNorm, exponentialCall, normCall}
-use Rattle.examples.specs.Examples.{only, lent, resting, remembering, begins, supplies, Gives, squares, asked, differenced, jacobianOf, Examples}
+use Rattle.examples.specs.Examples.{only, lent, resting, remembering, begins, supplies, Gives, single, Squares, asked, differenced, jacobianOf, Examples}
 
 -- ---- what is opened to compute
 
@@ -45,7 +45,7 @@ calls = 0
 
 -- the bare calls, the error norm and the first step
 unfoldable bare : ℕ
-unfolding floorRoot nearestRoot root ratio errorNorm rate estimate clamp firstStep otherwise instead faultExponential faultNorm exponentialCall normCall squares jacobianOf
+unfolding floorRoot nearestRoot root ratio errorNorm rate estimate clamp firstStep otherwise instead faultExponential faultNorm exponentialCall normCall single Squares jacobianOf
 bare = 0
 
 -- ---- THE STATEMENT
@@ -60,11 +60,11 @@ examples = record {
   etd2-history = (refl, refl);
   exprb32-asks = refl;
   exprb32 = refl;
-  s-half = refl;
-  s-above-half = refl;
-  s-one = refl;
-  s-above-8 = refl;
-  s-top = refl;
+  s-half = (refl, refl);
+  s-above-half = (refl, refl);
+  s-one = (refl, refl);
+  s-above-8 = (refl, refl);
+  s-top = (refl, refl);
   s-above-top = refl;
   differencing-asks = refl;
   differencing-ready = refl;

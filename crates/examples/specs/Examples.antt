@@ -6,7 +6,7 @@ use lib.Ieee.{Float, nan, binary64, ofBits}
 use lib.ListN.{replicate}
 use Rattle.loops.specs.Loop.{mat, _!_}
 use Rattle.float.specs.Arith.{_⊗_, zero+}
-use Rattle.matrix.specs.Matrix.{exponential}
+use Rattle.matrix.specs.Matrix.{norm, exponential}
 use Rattle.methods.specs.Numbers.{num, minus, decimal}
 use Rattle.engine.specs.Engine.{jacobianEntry}
 use Rattle.session.specs.declared.Session.{Session}
@@ -58,9 +58,12 @@ Etd2 = 13
 abbrev pub Exprb32 : ℕ
 Exprb32 = 14
 
--- how often the exponential of a matrix of one entry, which is its norm, is squared; the entry is given by its bits
-unfoldable pub squares : ℕ → ℕ
-squares b = exponential (ofBits binary64 b ∷ []) 1 .squarings
+-- the matrix whose one entry has the bits b; the entry is its norm, and its exponential is squared s times
+unfoldable pub single : ℕ → List Float
+single b = ofBits binary64 b ∷ []
+
+unfoldable pub Squares : ℕ → ℕ → Type 0
+Squares b s = (norm (single b) 1 ≡ ofBits binary64 b) × (exponential (single b) 1 .squarings ≡ s)
 
 -- Differencing 4·u at 1: the question, the answer 4 times what was asked, and the session that then is ready
 unfoldable pub asked : Outcome
@@ -91,17 +94,17 @@ pub record Examples : Type 0 where
   pub exprb32-asks : begins (resting Exprb32 (num 1) (num 2)) zero+ (num 1) .told .answer ≡ Ask (num 1)
   pub exprb32 : supplies (begins (resting Exprb32 (num 1) (num 2)) zero+ (num 1)) (num 2) .told .answer ≡ Ready zero+ 1 1
   -- 's for norm 0.5 is 0'
-  pub s-half : squares 0x3fe0_0000_0000_0000 ≡ 0
+  pub s-half : Squares 0x3fe0_0000_0000_0000 0
   -- 'just above 0.5, 1'
-  pub s-above-half : squares 0x3fe0_0000_0000_0001 ≡ 1
+  pub s-above-half : Squares 0x3fe0_0000_0000_0001 1
   -- '1, 1'
-  pub s-one : squares 0x3ff0_0000_0000_0000 ≡ 1
+  pub s-one : Squares 0x3ff0_0000_0000_0000 1
   -- 'just above 8, 5'
-  pub s-above-8 : squares 0x4020_0000_0000_0001 ≡ 5
+  pub s-above-8 : Squares 0x4020_0000_0000_0001 5
   -- '2^31, 32'
-  pub s-top : squares 0x41e0_0000_0000_0000 ≡ 32
+  pub s-top : Squares 0x41e0_0000_0000_0000 32
   -- 'Just above 2^31 is refused by 6'
-  pub s-above-top : exponentialCall 1 (ofBits binary64 0x41e0_0000_0000_0001 ∷ []) lent .answer ≡ Refused 6
+  pub s-above-top : exponentialCall 1 (single 0x41e0_0000_0000_0001) lent .answer ≡ Refused 6
   -- 'Differencing 4·u at 1 gives 4'
   pub differencing-asks : asked .told .answer ≡ Ask zero+
   pub differencing-ready : differenced .told .answer ≡ Ready zero+ 1 1

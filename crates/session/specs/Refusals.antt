@@ -1,11 +1,11 @@
--- Demand 1, read off the definitions of the calls: which number a call gives, and what a refusal leaves. Definitions only.
+-- Demand 1, read off the definitions of the calls: which number a call gives, and what a refusal leaves; and that no error norm told is a NaN. Definitions only.
 use Prim.Native.Nat.{ℕ}
 use mathlib.Core.Path.{_≡_}
 use mathlib.Core.Logic.{_⊎_}
 use mathlib.Core.Bool.{Bool, true, false, _&&_}
 use mathlib.Core.List.{List, [], _∷_, _++_}
-use lib.Dec.{eqb}
-use lib.Ieee.{Float, le}
+use lib.Dec.{T, eqb}
+use lib.Ieee.{Float, binary64, fits, isNan, le}
 use lib.ListN.{length}
 use Rattle.float.specs.Arith.{_⊕_, epsilon, finite}
 use Rattle.evaluation.specs.Evaluation.{allFinite}
@@ -21,6 +21,7 @@ use Rattle.session.specs.declared.Phase.the-variants.{Any, Rest, Asking,
 use Rattle.session.specs.declared.Wish.{Wish}
 use Rattle.session.specs.Session.{clear, usedJacobian, stepOk, good1, good2, good7, good4, good5, good3, progress}
 use Rattle.session.specs.Calls.{Outcome, opened, nothing, begun, answered, attemptOf, openCall, beginCall, supplyCall, acceptCall, dropCall, firstStepCall}
+use Rattle.session.specs.Bare.{normCall}
 
 -- the number of an answer: a refusal's from document 01's table, 0 for every other
 unfoldable pub number : Answer → ℕ
@@ -96,3 +97,14 @@ pub record Refusals : Type 0 where
   pub accept : (s : Session) (derivative : List Float) → Kept s (acceptCall s derivative)
   pub drop : (s : Session) → Kept s (dropCall s)
   pub firstStep : (s : Session) (largest : Float) → Kept s (firstStepCall s largest)
+
+-- ---- the error norm of Ready, and the bare one: never a NaN
+
+-- for every session whose absolute tolerance is a double and whose state has 16 places, as the code's have, and whatever is handed in
+pub record Norms : Type 0 where
+  pub begin : (s : Session) (step : Float) (wish : Wish) (jacobian out : List Float) → T (fits binary64 (s .absolute)) → length (s .state) ≡ 16
+      → (norm : Float) (rhs jacobians : ℕ) → beginCall s step wish jacobian out .told .answer ≡ Ready norm rhs jacobians → isNan norm ≡ false
+  pub supply : (s : Session) (answer out : List Float) → T (fits binary64 (s .absolute)) → length (s .state) ≡ 16
+      → (norm : Float) (rhs jacobians : ℕ) → supplyCall s answer out .told .answer ≡ Ready norm rhs jacobians → isNan norm ≡ false
+  pub bare : (n : ℕ) (relative absolute : Float) (error state candidate : List Float) → T (fits binary64 absolute) → length error ≡ 16 → length state ≡ 16 → length candidate ≡ 16
+      → (norm : Float) → normCall n relative absolute error state candidate ≡ Norm norm → isNan norm ≡ false
