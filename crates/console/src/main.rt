@@ -3,7 +3,6 @@
 ghost use mathlib.Core.Path.{_≡_};
 ghost use Prim.Native.Nat.{_+_, _*_, _≤_};
 ghost use lib.ListN.{length};
-
 use session::Answer;
 use session::Attempt;
 use session::History;
@@ -145,18 +144,30 @@ fn say_lent(out: &[f64]) -> bool
 // ---- enums as bytes: a number above the last counts as it
 
 fn history_of(b: u8) -> History {
-    if b == 0 { History::Missing } else { History::Held }
+    if b == 0 {
+        History::Missing
+    } else {
+        History::Held
+    }
 }
 
 fn wish_of(b: u8) -> Wish {
-    if b == 0 { Wish::Difference } else { Wish::Given }
+    if b == 0 {
+        Wish::Difference
+    } else {
+        Wish::Given
+    }
 }
 
 fn attempt_of(b: u8) -> Attempt {
     if b == 0 {
         return Attempt::None;
     }
-    if b == 1 { Attempt::Supplied } else { Attempt::Differenced }
+    if b == 1 {
+        Attempt::Supplied
+    } else {
+        Attempt::Differenced
+    }
 }
 
 fn history_byte(h: History) -> u8 {
@@ -306,10 +317,7 @@ fn exponential_lent(s: Session, size: usize, b: &mut [u8], m: &mut [f64], out: &
     }
     let answer = session::exponential(size, &*m, &mut *out);
     let on = say(answer) & say_lent(&*out);
-    Next {
-        on: on,
-        session: s,
-    }
+    Next { on: on, session: s }
 }
 
 fn exponential_call(s: Session) -> Next {
@@ -329,7 +337,13 @@ fn exponential_call(s: Session) -> Next {
     let mut bytes = [0u8; 4096];
     let mut m = [0.0; 512];
     let mut out = [-1.5; 512];
-    exponential_lent(s, wide(b[0]), &mut bytes[..room], &mut m[..entries], &mut out[..lent])
+    exponential_lent(
+        s,
+        wide(b[0]),
+        &mut bytes[..room],
+        &mut m[..entries],
+        &mut out[..lent],
+    )
 }
 
 // What a bare phi action is handed besides its arrays.
@@ -344,10 +358,7 @@ fn phi_lent(s: Session, p: Phi, a: &[f64], input: &[f64], out: &mut [f64]) -> Ne
 {
     let answer = session::phi_action(p.n, p.order, p.scale_a, a, input, &mut *out);
     let on = say(answer) & say_lent(&*out);
-    Next {
-        on: on,
-        session: s,
-    }
+    Next { on: on, session: s }
 }
 
 // Reads the input, then makes the call.
@@ -418,10 +429,7 @@ fn norm_call(s: Session) -> Next {
         vector(&b, 273),
     );
     let on = say(answer);
-    Next {
-        on: on,
-        session: s,
-    }
+    Next { on: on, session: s }
 }
 
 // ---- a session's image
@@ -492,10 +500,7 @@ fn show_call(s: Session) -> Next {
     let mut b = [0u8; 5029];
     put_image(s, &mut b);
     let on = io::write_all(1, &b);
-    Next {
-        on: on,
-        session: s,
-    }
+    Next { on: on, session: s }
 }
 
 fn image(b: &[u8]) -> Session

@@ -23,23 +23,23 @@ pass k p a au nonlinear0 =
     let h = p .step in
     let f0 = p .f0 in
     getD (
-      lawsonEuler n a u nonlinear0 h
-      ∷ norsettEuler n a u f0 h
-      ∷ etdrk2 n a u t h f0 nonlinear0
-      ∷ etdrk3 n a u t h f0 au
-      ∷ etdrk4 n a u t h f0 au
-      ∷ hochOst4 n a u t h f0 au
-      ∷ exp4 n a u t h f0
-      ∷ epirk4s3A n a u t h f0
-      ∷ epirk4s3B n a u t h f0
-      ∷ epirk5s3 n a u t h f0
-      ∷ exprb53s3 n a u t h f0
-      ∷ epirk5p1 n a u t h f0
-      ∷ epirk5p2 n a u t h f0
-      ∷ etd2 n a u h nonlinear0 (p .held) (p .previous)
-      ∷ exprb32 n a u t h f0
-      ∷ exprb43 n a u t h f0 au
-      ∷ []) k (done false zeros zeros)
+    lawsonEuler n a u nonlinear0 h
+    ∷ norsettEuler n a u f0 h
+    ∷ etdrk2 n a u t h f0 nonlinear0
+    ∷ etdrk3 n a u t h f0 au
+    ∷ etdrk4 n a u t h f0 au
+    ∷ hochOst4 n a u t h f0 au
+    ∷ exp4 n a u t h f0
+    ∷ epirk4s3A n a u t h f0
+    ∷ epirk4s3B n a u t h f0
+    ∷ epirk5s3 n a u t h f0
+    ∷ exprb53s3 n a u t h f0
+    ∷ epirk5p1 n a u t h f0
+    ∷ epirk5p2 n a u t h f0
+    ∷ etd2 n a u h nonlinear0 (p .held) (p .previous)
+    ∷ exprb32 n a u t h f0
+    ∷ exprb43 n a u t h f0 au
+    ∷ []) k (done false zeros zeros)
 
 -- how many questions the pass of scheme k asks
 unfoldable pub questions : ℕ → ℕ

@@ -413,7 +413,14 @@ fn supplied(s: Session) -> methods::StepResult
     let size = n * n;
     let jacobian = s.jacobian;
     let answers = s.answers;
-    schemes::perform_step(s.scheme, point_of(s), &jacobian[..size], &answers, 0, s.count)
+    schemes::perform_step(
+        s.scheme,
+        point_of(s),
+        &jacobian[..size],
+        &answers,
+        0,
+        s.count,
+    )
 }
 
 fn run_pass(s: Session) -> methods::StepResult
@@ -520,7 +527,13 @@ fn nothing() -> Session
 }
 
 // s moved to a time and a state; Etd2 keeps the nonlinear part.
-fn moved(s: Session, time: f64, state: [f64; 16], derivative: [f64; 16], nonlinear: [f64; 16]) -> Session
+fn moved(
+    s: Session,
+    time: f64,
+    state: [f64; 16],
+    derivative: [f64; 16],
+    nonlinear: [f64; 16],
+) -> Session
     ensures { λ r. ⌜ r ≡ moved s time state derivative nonlinear ⌝ }
 {
     let previous = s.previous;
@@ -842,7 +855,14 @@ fn fault_phi(n: usize, order: usize, scale_a: f64, a: &[f64], input: &[f64], len
 }
 
 // The phi action of order 1 to 4 on n numbers, into `out`.
-pub fn phi_action(n: usize, order: usize, scale_a: f64, a: &[f64], input: &[f64], out: &mut [f64]) -> Answer
+pub fn phi_action(
+    n: usize,
+    order: usize,
+    scale_a: f64,
+    a: &[f64],
+    input: &[f64],
+    out: &mut [f64],
+) -> Answer
     ensures { λ r. ⌜ bare r (now (out .exit)) ≡ phiCall n order «scale_a» (now (a .entry)) (now (input .entry)) (now (out .entry)) ⌝ }
 {
     let k = fault_phi(n, order, scale_a, a, input, out.len());
@@ -868,9 +888,17 @@ fn fault_norm(
 ) -> u8
     ensures { λ r. ⌜ r ≡ faultNorm n relative absolute error state candidate ⌝ }
 {
-    if (1 <= n) & (n <= 16) & places::clear(&error, n) & places::clear(&state, n) & places::clear(&candidate, n) {
+    if (1 <= n)
+        & (n <= 16)
+        & places::clear(&error, n)
+        & places::clear(&state, n)
+        & places::clear(&candidate, n)
+    {
         if positive(relative) & positive(absolute) {
-            if evaluation::all_finite(&error) & evaluation::all_finite(&state) & evaluation::all_finite(&candidate) {
+            if evaluation::all_finite(&error)
+                & evaluation::all_finite(&state)
+                & evaluation::all_finite(&candidate)
+            {
                 return 0;
             }
             return 3;
@@ -893,7 +921,14 @@ pub fn error_norm(
 {
     let k = fault_norm(n, relative, absolute, error, state, candidate);
     if k == 0 {
-        return Answer::Norm(engine::scaled_error_norm(n, relative, absolute, state, candidate, error));
+        return Answer::Norm(engine::scaled_error_norm(
+            n,
+            relative,
+            absolute,
+            state,
+            candidate,
+            error,
+        ));
     }
     Answer::Refused(k)
 }

@@ -16,8 +16,10 @@ begin-spec =
     (λ c κs. search needs)
     (λ c κs. fault-none Rest _ (sym (c .before .before .fault .ensures) ∙ c .before .if1 .taken) .0 .small)
     (λ c κs. search needs)
-    (λ c κs. (rw (c .before .begun .ensures, c .before .before .before .before .attempt-of .ensures) (begun-sound _ _ _ _ (fault-none Rest _ (sym (c .before .before .before .before .before .before .fault .ensures) ∙ c .before .before .before .before .before .if1 .taken) .0)),
-        rw (c .before .begun .ensures) (begin-length _ _ _ _ _ (sym (c .before .before .before .fault-begin .ensures) ∙ c .before .before .if2 .taken))))
+    (λ c κs. (
+      rw (c .before .begun .ensures, c .before .before .before .before .attempt-of .ensures) (begun-sound _ _ _ _ (fault-none Rest _ (sym (c .before .before .before .before .before .before .fault .ensures) ∙ c .before .before .before .before .before .if1 .taken) .0)),
+      rw (c .before .begun .ensures) (begin-length _ _ _ _ _ (sym (c .before .before .before .fault-begin .ensures) ∙ c .before .before .if2 .taken)),
+    ))
     (λ c. search needs)
     (λ c. rw (← (c .before .before .before .before .before .before .before .before .before .fault .ensures), c .before .before .before .before .before .before .before .before .if1 .taken, ← (c .before .before .before .before .before .before .before .attempt-of .ensures), ← (c .before .before .before .before .before .before .fault-begin .ensures), c .before .before .before .before .before .if2 .taken, ← (c .before .before .before .before .begun .ensures)) (c .before .before .show .ensures))
     (λ c. rw (← (c .before .before .before .before .fault .ensures), c .before .before .before .if1 .taken, ← (c .before .before .attempt-of .ensures), ← (c .before .fault-begin .ensures)) (except-refused _ _ _ _ (c .if2 .left)))

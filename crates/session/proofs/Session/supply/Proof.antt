@@ -16,8 +16,10 @@ supply-spec =
     (λ c κs. search needs)
     (λ c κs. search needs)
     (λ c κs. omega (arith, wants _ (sym (c .before .before .before .before .fault .ensures) ∙ c .before .before .before .if1 .taken), wanted-small (c .before .before .before .before .before .before .args .self .scheme) (c .before .before .before .before .before .before .args .self .n) (c .before .before .before .before .before .before .args .self .attempt) (fault-none Asking _ (sym (c .before .before .before .before .fault .ensures) ∙ c .before .before .before .if1 .taken) .0 .small)))
-    (λ c κs. (rw (c .before .answered .ensures) (answered-sound (c .before .before .before .before .before .before .before .before .args .self) (c .before .before .before .before .before .before .before .before .args .answer) (fault-none Asking _ (sym (c .before .before .before .before .before .before .fault .ensures) ∙ c .before .before .before .before .before .if1 .taken) .0) (wants _ (sym (c .before .before .before .before .before .before .fault .ensures) ∙ c .before .before .before .before .before .if1 .taken))),
-        rw (c .before .answered .ensures) (vector-length (c .before .before .before .before .before .before .before .before .args .self .n) (c .before .before .before .before .before .before .before .before .args .answer) _ (sym (c .before .before .before .fault-vector .ensures) ∙ c .before .before .if2 .taken))))
+    (λ c κs. (
+      rw (c .before .answered .ensures) (answered-sound (c .before .before .before .before .before .before .before .before .args .self) (c .before .before .before .before .before .before .before .before .args .answer) (fault-none Asking _ (sym (c .before .before .before .before .before .before .fault .ensures) ∙ c .before .before .before .before .before .if1 .taken) .0) (wants _ (sym (c .before .before .before .before .before .before .fault .ensures) ∙ c .before .before .before .before .before .if1 .taken))),
+      rw (c .before .answered .ensures) (vector-length (c .before .before .before .before .before .before .before .before .args .self .n) (c .before .before .before .before .before .before .before .before .args .answer) _ (sym (c .before .before .before .fault-vector .ensures) ∙ c .before .before .if2 .taken)),
+    ))
     (λ c. search needs)
     (λ c. rw (← (c .before .before .before .before .before .before .before .before .before .fault .ensures), c .before .before .before .before .before .before .before .before .if1 .taken, ← (c .before .before .before .before .before .before .fault-vector .ensures), c .before .before .before .before .before .if2 .taken, ← (c .before .before .before .before .answered .ensures)) (c .before .before .show .ensures))
     (λ c. rw (← (c .before .before .before .before .fault .ensures), c .before .before .before .if1 .taken, ← (c .before .fault-vector .ensures)) (except-refused _ _ _ _ (c .if2 .left)))
