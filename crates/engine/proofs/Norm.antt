@@ -3,20 +3,20 @@ use Prim.Native.Nat.{ℕ, zero, suc, _+_, _-_, _*_, _/_, _%_, _^_, _≤_, _<_, c
 use mathlib.Core.Path.{_≡_, refl, sym, ap, _∙_, subst}
 use mathlib.Core.Bool.{Bool, true, false, not, cond, _&&_, true≢false}
 use mathlib.Core.List.{List}
-use native.Mathlib.Nat.{lt-of-lt-of-le, le-trans, le-of-eq, le-refl, mul-pos, mul-one, mul-comm, mul-assoc, mul-right-comm, mul-le-mul-right, mul-le-mul, zero-lt-suc, not-suc-le-zero}
+use native.Mathlib.Nat.{lt-of-lt-of-le, le-trans, le-of-eq, mul-pos, mul-one, mul-comm, mul-le-mul-right, mul-le-mul, zero-lt-suc}
 use native.Mathlib.Omega.{arith}
-use lib.Dec.{T, eqb, ltb, leb, leb→le, lit≤, ltb→lt}
+use lib.Dec.{T, eqb, ltb, leb, leb→le, lit≤}
 use lib.Pow.{pow-pos, shl-lt}
-use borrow.Author.Tests.{ne-eqb, ltb-true}
-use lib.IntN.{ℤ, pos, negsuc}
-use lib.Ieee.{Float, nan, inf, fin, binary64, prec, emax, low, up, down, unlike, size, nearest, odd, units, round, sum, add, mul, div, ofInt, isNan, fits, lt, le, ofBits, ofFields}
+use borrow.Author.Tests.{ne-eqb}
+use lib.IntN.{ℤ, pos}
+use lib.Ieee.{Float, nan, inf, fin, binary64, prec, emax, low, up, down, unlike, size, nearest, odd, units, round, sum, add, mul, div, ofInt, isNan, fits, lt, ofBits, ofFields}
 use lib.Ieee.Fits.{down-pos, up-pos, and-l, and-r}
 use lib.Ieee.Exact.{HasValue, round-exact}
 use lib.Ieee.Order.{round-mono}
 use lib.Ieee.Positive.{positive, positive-of-value, above, above-of-le}
-use Rattle.loops.specs.Loop.{every, _!_}
+use Rattle.loops.specs.Loop.{_!_}
 use Rattle.float.specs.Arith.{_⊕_, _⊗_, _⊘_, zero+, finite, abs, larger, powi2, sumOf}
-use Rattle.float.specs.Root.{root, sqrt, nearestRoot, floorRoot, square}
+use Rattle.float.specs.Root.{root, sqrt, nearestRoot}
 use Rattle.engine.specs.Engine.{ratio, errorNorm}
 
 -- no NaN, and no minus sign
@@ -126,12 +126,6 @@ root-number (fin false zero e) h = refl
 root-number (fin false (suc m) e) h = odd-number _ _ _ _
 
 -- ---- the tolerance of an entry is above zero
-abs-finite : (x : Float) → finite x ≡ true → (m : ℕ) × (e : ℤ) × (abs x ≡ fin false m e)
-unfolding finite abs
-abs-finite nan h = absurd (subst T (sym h) tt)
-abs-finite (inf s) h = absurd (subst T (sym h) tt)
-abs-finite (fin s m e) h = (m, e, refl)
-
 -- a product of two that are finite and have no minus sign
 mul-plus : (m n : ℕ) (e d : ℤ) → T (plus (fin false m e ⊗ fin false n d))
 unfolding mul

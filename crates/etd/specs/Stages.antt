@@ -1,6 +1,6 @@
 -- HochOst4 is longer than one function of the code: its pass from a later line on, as in Schemes. Definitions only.
 use Prim.Native.Nat.{ℕ}
-use mathlib.Core.Bool.{true, _&&_}
+use mathlib.Core.Bool.{_&&_}
 use mathlib.Core.List.{List, [], _∷_}
 use lib.Ieee.{Float}
 use Rattle.float.specs.Arith.{_⊕_, _⊘_}
@@ -9,7 +9,7 @@ use Rattle.methods.specs.Vectors.{add, scale, axpy, combine}
 use Rattle.methods.specs.Phi.{over, phiTerm}
 use Rattle.methods.specs.declared.Action.{Action}
 use Rattle.methods.specs.Parts.{more}
-use Rattle.methods.specs.Pass.{Pass, done, Line, now, try, shiftedStage, _>>=_}
+use Rattle.methods.specs.Pass.{Pass, now, try, shiftedStage, _>>=_}
 use Rattle.methods.specs.Schemes.{candidate, a52, a54}
 
 -- from the last answer on

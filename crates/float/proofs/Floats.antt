@@ -1,14 +1,14 @@
 -- What the tests and branches of the float helpers say. Assumes nothing.
-use Prim.Native.Nat.{ℕ, zero, suc, _+_, _*_, _^_, _<_, _≤_}
+use Prim.Native.Nat.{ℕ, zero, suc, _+_, _*_, _<_}
 use mathlib.Core.Path.{_≡_, refl, sym, ap, _∙_, subst}
-use mathlib.Core.Bool.{Bool, true, false, not, cond, _&&_, _||_, Bool·beq}
+use mathlib.Core.Bool.{Bool, true, false, not, _&&_, _||_, Bool·beq}
 use native.Mathlib.Nat.{mul-pos, zero-mul, pow-suc}
 use native.Mathlib.Omega.{arith}
-use lib.Dec.{T, eqb, ltb}
+use lib.Dec.{T, eqb}
 use lib.Pow.{pow-pos}
 use lib.IntN.{ℤ, pos, negsuc}
 use lib.Count.{trailingZeros}
-use lib.Ieee.{Float, nan, inf, fin, binary64, lt, eq, ne, neg, div, round, isNan, fits, ofBits, ofFields, odd, up, down, level}
+use lib.Ieee.{Float, nan, inf, fin, binary64, lt, eq, ne, neg, div, isNan, fits, ofBits, ofFields, odd, up, down, level}
 use borrow.Author.Tests.{ltb-true, ltb-false, eqb-true, eq-eqb, ne-eqb}
 use Rattle.float.specs.Arith.{_⊘_, zero+, one, abs, larger, finite, plusZero}
 

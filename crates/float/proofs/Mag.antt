@@ -1,22 +1,15 @@
 -- The magnitude of a finite value in units of the format's smallest, and what add, mul and div do to it: one rounding each, so long as nothing overflows.
 -- Assumes nothing.
-use mathlib.Core.Path.{_≡_, refl, sym, ap, _∙_, subst}
-use mathlib.Core.Logic.{inl, inr}
-use Prim.Native.Nat.{ℕ, zero, suc, _+_, _-_, _*_, _/_, _%_, _^_, _≤_, _<_}
-use native.Mathlib.Nat.{le-trans, le-of-eq, le-refl, lt-of-lt-of-le, lt-irrefl, lt-of-mul-lt-mul-right, zero-lt-suc, add-mul, mul-add, mul-one, mul-comm, mul-assoc, mul-left-comm, mul-right-comm, mul-mul-mul-comm, mul-sub, mul-le-mul-right, mul-le-mul-left, le-of-mul-le-mul-right, mul-pos, div-eq-of-eq-mul-left}
+use mathlib.Core.Path.{_≡_, sym, ap, _∙_, subst}
+use Prim.Native.Nat.{ℕ, _+_, _-_, _*_, _/_, _^_, _≤_, _<_}
+use native.Mathlib.Nat.{lt-of-mul-lt-mul-right, add-mul, mul-one, mul-comm, mul-assoc, mul-left-comm, mul-right-comm, mul-mul-mul-comm, mul-sub, mul-le-mul-right, mul-le-mul-left, le-of-mul-le-mul-right, div-eq-of-eq-mul-left}
 use native.Mathlib.Omega.{arith}
-use mathlib.Core.Bool.{Bool, true, false, not, cond, _&&_, Bool·beq}
-use lib.IntN.{ℤ, pos, negsuc}
-use lib.Dec.{T, eqb, ltb, eqb→eq, ltb→lt}
-use lib.Pow.{pow-add, pow-pos}
-use lib.Ieee.{Float, nan, inf, fin, Format, prec, emax, low, up, down, unlike, units, round, sum, add, mul, div}
+use mathlib.Core.Bool.{Bool}
+use lib.Ieee.{Float, nan, inf, fin, Format, emax, low, up, down, units, sum, add, mul, div}
 use lib.Ieee.Digits.{Equals}
-use lib.Ieee.Fits.{down-pos, up-pos, round-is}
-use lib.Ieee.Exact.{HasValue, units-val}
-use lib.Ieee.Order.{drop, kept}
-use lib.Ieee.Scale.{grid, overflow, round-same}
-use lib.Ieee.Positive.{first-pos}
-use Rattle.float.proofs.Round.{half, grid-up, grid-down}
+use lib.Ieee.Fits.{down-pos}
+use lib.Ieee.Exact.{HasValue}
+use Rattle.float.proofs.Round.{half}
 
 -- g is v / c rounded to a whole number: within half a unit and one part in 2 * Q
 abbrev pub Near : ℕ → ℕ → ℕ → ℕ → Type 0

@@ -11,7 +11,7 @@ use lib.Dec.{T, leb, ltb, eqb, ltb→lt, lt→ltb, nltb→le, le→leb, lit≤}
 use lib.Count.{leadingZeros}
 use lib.Pow.{pow-add, pow-pos}
 use lib.IntN.{ℤ}
-use lib.Ieee.{Float, nan, inf, fin, binary64, up, down, size, odd, fits, ofFields, ofBits, toBits}
+use lib.Ieee.{Float, nan, inf, fin, binary64, size, odd, fits, ofFields, ofBits, toBits}
 use lib.Ieee.Bits.{is-true, ofBits-toBits, toBits-lt}
 use lib.Ieee.Digits.{size-lt}
 use lib.Ieee.Fits.{nan-fits, inf-fits}

@@ -1,10 +1,9 @@
 -- Values with their signs, in units: a value is `plus x` - `minus x`, of which one is 0. What one rounding of a sum, product or quotient can change. Assumes nothing.
 use mathlib.Core.Path.{_≡_, refl, sym, ap, _∙_, subst}
-use Prim.Native.Nat.{ℕ, zero, suc, _+_, _-_, _*_, _/_, _%_, _^_, _≤_, _<_}
-use native.Mathlib.Nat.{le-trans, le-of-eq, le-of-lt, le-refl, zero-mul, mul-zero, add-mul, mul-one, mul-comm, mul-assoc, mul-left-comm, mul-right-comm, mul-le-mul-right, mul-le-mul-left, le-of-mul-le-mul-right, mul-pos}
+use Prim.Native.Nat.{ℕ, zero, suc, _+_, _-_, _*_, _/_, _^_, _≤_, _<_}
+use native.Mathlib.Nat.{le-trans, le-of-eq, le-of-lt, le-refl, add-mul, mul-one, mul-comm, mul-le-mul-right, le-of-mul-le-mul-right, mul-pos}
 use native.Mathlib.Omega.{arith}
-use mathlib.Core.Bool.{Bool, true, false, not, cond, _&&_, Bool·beq}
-use lib.IntN.{ℤ, pos, negsuc}
+use mathlib.Core.Bool.{Bool, true, false, not, cond}
 use lib.Dec.{T, eqb, ltb, eqb→eq, ltb→lt, nltb→le}
 use lib.Pow.{pow-add, pow-pos}
 use lib.Ieee.{Float, nan, inf, fin, Format, prec, emax, low, up, down, unlike, units, round, sum, add, mul, div}
@@ -45,43 +44,7 @@ parts true g = omega arith
 abbrev pub Off : ℕ → ℕ → ℕ → ℕ → ℕ → Type 0
 Off p n p' n' e = (p + n' ≤ p' + n + e) × (p' + n ≤ p + n' + e)
 
-pub off-refl : (p n : ℕ) → Off p n p n 0
-off-refl p n = (omega arith, omega arith)
-
-pub off-trans : (p n q m r o e e' : ℕ) → Off p n q m e → Off q m r o e' → Off p n r o (e + e')
-off-trans p n q m r o e e' h k = let a = h .0 in let b = h .1 in let c = k .0 in let d = k .1 in (omega arith, omega arith)
-
-pub off-wide : (p n q m e e' : ℕ) → e ≤ e' → Off p n q m e → Off p n q m e'
-off-wide p n q m e e' l h = let a = h .0 in let b = h .1 in (omega arith, omega arith)
-
-pub off-add : (p n q m e p' n' q' m' e' : ℕ) → Off p n q m e → Off p' n' q' m' e' → Off (p + p') (n + n') (q + q') (m + m') (e + e')
-off-add p n q m e p' n' q' m' e' h k = let a = h .0 in let b = h .1 in let c = k .0 in let d = k .1 in (omega arith, omega arith)
-
-pub off-mul : (c p n q m e : ℕ) → Off p n q m e → Off (p * c) (n * c) (q * c) (m * c) (e * c)
-off-mul c p n q m e h =
-    let a : (p + m) * c ≤ (q + n + e) * c = mul-le-mul-right c (h .0) in
-    let b : (q + n) * c ≤ (p + m + e) * c = mul-le-mul-right c (h .1) in
-    let e1 = add-mul p m c in
-    let e2 : (q + n + e) * c ≡ q * c + n * c + e * c = add-mul (q + n) e c ∙ ap (λ (z : ℕ). z + e * c) (add-mul q n c) in
-    let e3 = add-mul q n c in
-    let e4 : (p + m + e) * c ≡ p * c + m * c + e * c = add-mul (p + m) e c ∙ ap (λ (z : ℕ). z + e * c) (add-mul p m c) in
-    (omega arith, omega arith)
-
 -- ---- one rounding, with its sign
-off-near : (s : Bool) (Q v c g : ℕ) → Near Q v c g → Off (pp s g * c * (2 * Q)) (nn s g * c * (2 * Q)) (pp s v * (2 * Q)) (nn s v * (2 * Q)) (v + c * Q)
-off-near false Q v c g h =
-    let a = h .0 in
-    let b = h .1 in
-    let z : 0 * c * (2 * Q) ≡ 0 = ap (λ (t : ℕ). t * (2 * Q)) (zero-mul c) ∙ zero-mul (2 * Q) in
-    let z' : 0 * (2 * Q) ≡ 0 = zero-mul (2 * Q) in
-    (omega arith, omega arith)
-off-near true Q v c g h =
-    let a = h .0 in
-    let b = h .1 in
-    let z : 0 * c * (2 * Q) ≡ 0 = ap (λ (t : ℕ). t * (2 * Q)) (zero-mul c) ∙ zero-mul (2 * Q) in
-    let z' : 0 * (2 * Q) ≡ 0 = zero-mul (2 * Q) in
-    (omega arith, omega arith)
-
 value-sgn : (x : Float) (s : Bool) (a c : ℕ) → HasValue x s a c → sgn x ≡ s
 value-sgn nan s a c h = absurd h
 value-sgn (inf t) s a c h = absurd h
@@ -100,12 +63,6 @@ round-value f s a c C h =
 abbrev pub Rounds : Format → Float → Bool → ℕ → ℕ → Type 0
 Rounds f x s v c = On f x × (sgn x ≡ s) × Near (half f) v c (mag f x)
 
-rounds-off : (f : Format) (x : Float) (s : Bool) (v c : ℕ) → Rounds f x s v c → Off (plus f x * c * (2 * half f)) (minus f x * c * (2 * half f)) (pp s v * (2 * half f)) (nn s v * (2 * half f)) (v + c * half f)
-rounds-off f x s v c h =
-    let g = mag f x in
-    let Q = half f in
-    subst (λ (t : Bool). Off (pp t g * c * (2 * Q)) (nn t g * c * (2 * Q)) (pp s v * (2 * Q)) (nn s v * (2 * Q)) (v + c * Q)) (sym (h .1)) (off-near s Q v c g (h .2))
-
 round-rounds : (f : Format) (s : Bool) (a c : ℕ) → 0 < c → a * 2 ≤ c * 2 ^ low f * 2 ^ emax f → Rounds f (round f s a (c * 2 ^ low f)) s a c
 round-rounds f s a c C h =
     let U = 2 ^ low f in
@@ -118,12 +75,6 @@ round-rounds f s a c C h =
     (equals-on f x (grid f a d) (value-equals x s (grid f a d) U v), value-sgn x s (grid f a d) U v, subst (λ (z : ℕ). Near (half f) a c z) (sym q) (near-cancel (half f) a c U (grid f a d) (pow-pos (low f)) n))
 
 -- ---- the product
-sign-mul : (s t : Bool) (X Y : ℕ) → (pp s X * pp t Y + nn s X * nn t Y ≡ pp (unlike s t) (X * Y)) × (pp s X * nn t Y + nn s X * pp t Y ≡ nn (unlike s t) (X * Y))
-sign-mul false false X Y = (native.Mathlib.Nat.add-zero (X * Y), (let a = mul-zero X in let b = zero-mul Y in omega arith))
-sign-mul false true X Y = ((let a = mul-zero X in let b = zero-mul Y in omega arith), native.Mathlib.Nat.add-zero (X * Y))
-sign-mul true false X Y = ((let a = mul-zero X in let b = zero-mul Y in omega arith), native.Mathlib.Nat.zero-add (X * Y))
-sign-mul true true X Y = (native.Mathlib.Nat.zero-add (X * Y), (let a = mul-zero X in let b = zero-mul Y in omega arith))
-
 mul-is : (f : Format) (x y : Float) (X Y : ℕ) → Equals x X (2 ^ low f) → Equals y Y (2 ^ low f) → mul f x y ≡ round f (unlike (sgn x) (sgn y)) (X * Y) (2 ^ low f * 2 ^ low f)
 unfolding mul
 mul-is f nan y X Y h k = absurd h
@@ -138,18 +89,6 @@ pub mul-rounds : (f : Format) (x y : Float) → On f x → On f y → mag f x * 
 mul-rounds f x y h k l =
     let s = unlike (sgn x) (sgn y) in
     subst (λ (z : Float). Rounds f z s (mag f x * mag f y) (2 ^ low f)) (sym (mul-is f x y (mag f x) (mag f y) h k)) (round-rounds f s (mag f x * mag f y) (2 ^ low f) (pow-pos (low f)) l)
-
-pub mul-off : (f : Format) (x y : Float) → Rounds f (mul f x y) (unlike (sgn x) (sgn y)) (mag f x * mag f y) (2 ^ low f)
-    → Off (plus f (mul f x y) * 2 ^ low f * (2 * half f)) (minus f (mul f x y) * 2 ^ low f * (2 * half f)) ((plus f x * plus f y + minus f x * minus f y) * (2 * half f)) ((plus f x * minus f y + minus f x * plus f y) * (2 * half f)) (mag f x * mag f y + 2 ^ low f * half f)
-mul-off f x y h =
-    let e = sign-mul (sgn x) (sgn y) (mag f x) (mag f y) in
-    let z = mul f x y in
-    let Q = half f in
-    let U = 2 ^ low f in
-    let v = mag f x * mag f y in
-    subst (λ (t : ℕ). Off (plus f z * U * (2 * Q)) (minus f z * U * (2 * Q)) (t * (2 * Q)) ((plus f x * minus f y + minus f x * plus f y) * (2 * Q)) (v + U * Q)) (sym (e .0))
-    (subst (λ (t : ℕ). Off (plus f z * U * (2 * Q)) (minus f z * U * (2 * Q)) (pp (unlike (sgn x) (sgn y)) v * (2 * Q)) (t * (2 * Q)) (v + U * Q)) (sym (e .1))
-    (rounds-off f z (unlike (sgn x) (sgn y)) v U h))
 
 -- ---- the quotient by a whole number above zero
 div-is : (f : Format) (x y : Float) (X K : ℕ) → Equals x X (2 ^ low f) → 0 < K → HasValue y false K 1 → div f x y ≡ round f (sgn x) X (K * 2 ^ low f)
@@ -179,10 +118,6 @@ div-is f (fin s m e) (fin t n d) X K h p k =
 
 pub div-rounds : (f : Format) (x y : Float) (K : ℕ) → On f x → 0 < K → HasValue y false K 1 → mag f x * 2 ≤ K * 2 ^ low f * 2 ^ emax f → Rounds f (div f x y) (sgn x) (mag f x) K
 div-rounds f x y K h p k l = subst (λ (z : Float). Rounds f z (sgn x) (mag f x) K) (sym (div-is f x y (mag f x) K h p k)) (round-rounds f (sgn x) (mag f x) K p l)
-
-pub div-off : (f : Format) (x y : Float) (K : ℕ) → Rounds f (div f x y) (sgn x) (mag f x) K
-    → Off (plus f (div f x y) * K * (2 * half f)) (minus f (div f x y) * K * (2 * half f)) (plus f x * (2 * half f)) (minus f x * (2 * half f)) (mag f x + K * half f)
-div-off f x y K h = rounds-off f (div f x y) (sgn x) (mag f x) K h
 
 -- ---- the sum
 abbrev SignedSum : Format → Float → Bool → ℕ → Bool → ℕ → Type 0

@@ -2,7 +2,7 @@
 use mathlib.Core.Path.{_≡_, refl, sym, ap, _∙_, subst}
 use mathlib.Core.Logic.{inl, inr}
 use Prim.Native.Nat.{ℕ, zero, suc, _+_, _*_, _≤_, _<_, zero-le}
-use native.Mathlib.Nat.{le-trans, le-refl, le-of-eq, add-le-add, le-suc, lt-irrefl, not-le-of-lt, eq-or-lt-of-le, le-of-suc-le-suc, zero-mul, suc-mul, mul-zero, mul-add, add-mul}
+use native.Mathlib.Nat.{le-refl, le-of-eq, add-le-add, not-le-of-lt, eq-or-lt-of-le, zero-mul, suc-mul, mul-zero, mul-add}
 use native.Mathlib.Omega.{arith}
 
 -- f 0 + f 1 + .., n of them
@@ -62,8 +62,3 @@ prefix-le (suc n) f j h = elim (eq-or-lt-of-le h) [ inl e ↦ le-of-eq (ap (λ (
   where
     left : (x a b : ℕ) → x ≤ a → x ≤ a + b
     left x a b h = omega arith
-
-pub total-mulr : (n c : ℕ) (f : ℕ → ℕ) → total n (λ i. f i * c) ≡ total n f * c
-unfolding total
-total-mulr zero c f = sym (zero-mul c)
-total-mulr (suc n) c f = ap (λ (z : ℕ). z + f n * c) (total-mulr n c f) ∙ sym (add-mul (total n f) (f n) c)

@@ -11,18 +11,6 @@ use lib.ListN.{getD, length, set, drop, length-append, length-drop}
 use lib.Seq.{set-at, append-snoc, drop-cons, drop-length}
 use Rattle.loops.specs.Loop.{iter, every, from, tab, fill, stores, _!_}
 
--- ---- iter
-pub iter-none : {A : Type 0} (f : ℕ → A → A) (s : A) → s ≡ iter 0 f s
-unfolding iter
-iter-none f s = refl
-
-pub iter-step : {A : Type 0} (f : ℕ → A → A) (s : A) (k : ℕ) (t : A) → t ≡ iter k f s → f k t ≡ iter (k + 1) f s
-unfolding iter
-iter-step f s k t e = rw (add-one, e)
-
-pub iter-end : {A : Type 0} (f : ℕ → A → A) (s : A) (k n : ℕ) (t : A) → t ≡ iter k f s → k ≡ n → t ≡ iter n f s
-iter-end f s k n t e h = rw (← h) e
-
 -- ---- every
 pub every-none : (f : ℕ → Bool) → true ≡ every 0 f
 unfolding every

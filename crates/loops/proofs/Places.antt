@@ -1,6 +1,6 @@
 -- Rows and columns of a matrix that is kept row by row. Assumes nothing.
 use Prim.Native.Nat.{ℕ, zero, suc, _+_, _*_, _/_, _%_, _<_, _≤_}
-use mathlib.Core.Path.{_≡_, refl, ap, _∙_}
+use mathlib.Core.Path.{_≡_, _∙_}
 use native.Mathlib.Nat.{not-suc-le-zero, zero-mul, div-lt-iff-lt-mul, mod-lt, add-zero, suc-mul, mul-le-mul-right, mul-add-div-right, mul-add-mod-self-right, div-eq-of-lt, mod-eq-of-lt}
 use native.Mathlib.Omega.{arith}
 use mathlib.Core.List.{List}
@@ -8,7 +8,6 @@ use lib.Ieee.{Float}
 use lib.ListN.{length}
 use Rattle.loops.specs.Loop.{mat, fill, _!_}
 use Rattle.loops.proofs.Loops.{length-tab, tab-at, fill-all}
-use Rattle.loops.proofs.Stores.{tab-ext}
 
 -- row i ends within the matrix
 pub row-fits : (i n : ℕ) → i < n → i * n + n ≤ n * n
@@ -42,11 +41,6 @@ mat-at n f i j h k = tab-at (n * n) _ (i * n + j) (omega (arith, row-fits i n h)
 pub length-mat : (n : ℕ) (f : ℕ → ℕ → Float) → length (mat n f) ≡ n * n
 unfolding mat
 length-mat n f = length-tab (n * n) _
-
--- two matrices of the same entries are one
-pub mat-ext : (n : ℕ) (f g : ℕ → ℕ → Float) → ((i j : ℕ) → i < n → j < n → f i j ≡ g i j) → mat n f ≡ mat n g
-unfolding mat
-mat-ext n f g h = tab-ext (n * n) _ _ (λ p q. h (p / n) (p % n) (row-below p n q) (column-below p n q))
 
 -- a loop over all places of a matrix
 pub mat-all : (n : ℕ) (f : ℕ → ℕ → Float) (i : ℕ) (o x : List Float) → x ≡ fill i (λ p. f (p / n) (p % n)) o → i ≡ length o → length o ≡ n * n → x ≡ mat n f

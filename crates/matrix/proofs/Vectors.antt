@@ -1,11 +1,9 @@
 -- Laws of `vec`: what a loop over a vector leaves after i turns, and what stands at each place. Assumes nothing.
 use Prim.Native.Nat.{ℕ, _+_, _≤_, _<_}
-use mathlib.Core.Path.{_≡_, refl, sym, ap, _∙_}
+use mathlib.Core.Path.{_≡_, refl, _∙_}
 use mathlib.Core.List.{List}
-use native.Mathlib.Omega.{arith}
 use lib.Ieee.{Float, nan, binary64, ofBits}
-use lib.ListN.{getD, length, set, replicate, drop, List·getD-append}
-use lib.Seq.{ext-getD}
+use lib.ListN.{length, set, replicate, drop, List·getD-append}
 use Rattle.loops.specs.Loop.{fill, tab, _!_}
 use Rattle.loops.proofs.Loops.{fill-none, fill-step, length-fill, length-tab, tab-at}
 use Rattle.matrix.specs.Vector.{zeros, vec}

@@ -1,22 +1,19 @@
 -- Places of a matrix, where the lent ones end, and what the exponentials' two outcomes are. Assumes nothing.
-use Prim.Native.Nat.{ℕ, zero, suc, _+_, _-_, _*_, _/_, _%_, _<_, _≤_}
-use mathlib.Core.Path.{_≡_, refl, sym, ap, _∙_}
-use mathlib.Core.Bool.{Bool, true, false, cond}
+use Prim.Native.Nat.{ℕ, _+_, _-_, _*_, _/_, _%_, _<_, _≤_}
+use mathlib.Core.Path.{_≡_, sym, ap}
+use mathlib.Core.Bool.{Bool, true, false}
 use mathlib.Core.List.{List}
 use native.Mathlib.Nat.{mul-le-mul, lt-of-lt-of-le, div-add-mod'}
 use native.Mathlib.Omega.{arith}
-use lib.Ieee.{Float, nan, binary64, ofBits, ofFields}
-use lib.ListN.{length, set, replicate, take}
-use lib.Seq.{length-take-le}
-use Rattle.loops.specs.Loop.{fill, mat, _!_}
-use Rattle.loops.proofs.Loops.{fill-none, fill-step, fill-end}
-use Rattle.loops.proofs.Places.{row-fits, row-below, mat-all, size-some}
+use lib.Ieee.{Float, binary64, ofBits}
+use lib.ListN.{replicate}
+use Rattle.loops.specs.Loop.{mat, _!_}
+use Rattle.loops.proofs.Places.{row-fits, row-below}
 use Rattle.float.specs.Arith.{_⊗_}
-use Rattle.matrix.specs.Matrix.{at, admitted, exponential}
+use Rattle.matrix.specs.Matrix.{at, exponential}
 use Rattle.matrix.specs.Calls.{Filled}
 use Rattle.matrix.specs.Vector.{zeros, vec, matVec}
-use Rattle.methods.specs.declared.Action.{Action}
-use Rattle.methods.specs.Phi.{checked, augmentedEntry, augmented, phiAction, expAction}
+use Rattle.methods.specs.Phi.{checked, augmentedEntry, expAction}
 use Rattle.methods.specs.Parts.{phiInto}
 
 -- ---- places of a matrix

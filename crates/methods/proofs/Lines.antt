@@ -1,6 +1,6 @@
 -- Replaying a pass line by line: S is where the code's record stands, and b the flag that it has so far. Assumes nothing.
 use Prim.Native.Nat.{ℕ, zero, suc, _+_, _-_}
-use mathlib.Core.Path.{_≡_, refl, sym, ap, _∙_}
+use mathlib.Core.Path.{_≡_, refl}
 use mathlib.Core.Bool.{Bool, true, false, cond, _&&_}
 use mathlib.Core.List.{List}
 use native.Mathlib.Omega.{arith}
@@ -11,7 +11,7 @@ use Rattle.methods.specs.declared.Action.{Action}
 use Rattle.methods.specs.Vectors.{axpy}
 use Rattle.methods.specs.Phi.{over}
 use Rattle.methods.specs.Parts.{more}
-use Rattle.methods.specs.Pass.{Pass, ask, done, also, Line, now, try, question, _>>=_, Stand, fails, asks, ends, answer, replay}
+use Rattle.methods.specs.Pass.{Pass, ask, done, also, now, try, question, _>>=_, Stand, fails, asks, ends, answer, replay}
 
 cond-and : {A : Type 0} (a b : Bool) (x y : A) → cond (a && b) x y ≡ cond a (cond b x y) y
 cond-and true b x y = refl

@@ -1,6 +1,6 @@
 -- A scheme's pass as a tree of questions, and how far given answers lead into it. Definitions only.
 use Prim.Native.Nat.{ℕ, zero, suc, _+_, _*_}
-use mathlib.Core.Bool.{Bool, true, false, cond, _&&_}
+use mathlib.Core.Bool.{Bool, true, cond, _&&_}
 use mathlib.Core.List.{List}
 use lib.Ieee.{Float}
 use Rattle.loops.specs.Loop.{_!_}

@@ -10,7 +10,7 @@ use Rattle.methods.specs.declared.Action.{Action}
 use Rattle.methods.specs.Numbers.{num, minus, decimal, minusDecimal}
 use Rattle.methods.specs.Vectors.{add, subtract, scale, axpy, combine}
 use Rattle.methods.specs.Phi.{over, phiAction, phiTerm, expAction}
-use Rattle.methods.specs.Pass.{Pass, done, Line, now, try, evaluateNew, shiftedStage, remainder, _>>=_}
+use Rattle.methods.specs.Pass.{Pass, done, now, try, evaluateNew, shiftedStage, remainder, _>>=_}
 
 -- a candidate of a scheme that has no error vector
 abbrev pub candidate : List Float → Pass

@@ -1,6 +1,6 @@
 -- perform_step: the choice by number, and what stands around it. Definitions only.
 use Prim.Native.Nat.{ℕ}
-use mathlib.Core.Bool.{Bool, true, false, cond, _&&_}
+use mathlib.Core.Bool.{false, cond, _&&_}
 use mathlib.Core.List.{List, [], _∷_}
 use lib.Ieee.{Float}
 use lib.ListN.{getD}

@@ -1,5 +1,5 @@
 -- Demand 3, as document 01's 'The mirrored runs of demand 3' reads it: one statement about an opening and a list of calls. Definitions only.
-use Prim.Native.Nat.{ℕ, _+_, _*_, _/_, _%_, _<_}
+use Prim.Native.Nat.{ℕ, _*_, _/_, _%_, _<_}
 use mathlib.Core.Path.{_≡_}
 use mathlib.Core.Logic.{_⊎_}
 use mathlib.Core.Bool.{Bool, true, false, _&&_}

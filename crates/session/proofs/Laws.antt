@@ -1,21 +1,19 @@
 -- What follows from tests that passed, and what is told of an attempt. Assumes nothing.
 use Rattle.methods.specs.Step.{questions, Progress, refused, progress as reached, progressKind}
-use Rattle.session.specs.Session.{wanted, sizeOk, runPlaces, attemptPlaces, good1, historyOk, good2, good4, good5, good3, inPhase, good7, fault, stepOk, usedJacobian, Sound, clear}
+use Rattle.session.specs.Session.{wanted, sizeOk, runPlaces, attemptPlaces, good1, historyOk, good2, inPhase, good7, fault, usedJacobian, Sound, clear}
 use Rattle.methods.specs.Vectors.{Sized}
 use Rattle.session.specs.Bare.{Bare, bare, otherwise, instead, faultExponential, faultPhi, faultNorm}
-use Rattle.session.specs.Calls.{faultVector, faultBegin, Outcome, outcome, tell, unless, except, begun, answered, attemptOf, shown, arrived, settled, moved, readyOf, answerOf}
-use Prim.Native.Nat.{ℕ, zero, suc, _+_, _-_, _*_, _^_, _≤_, _<_}
-use mathlib.Core.Path.{_≡_, refl, sym, ap, _∙_, subst}
-use mathlib.Core.Bool.{Bool, true, false, cond, not, _&&_, _||_}
+use Rattle.session.specs.Calls.{faultVector, faultBegin, Outcome, outcome, tell, unless, except, begun, answered, attemptOf, shown, arrived, settled, answerOf}
+use Prim.Native.Nat.{ℕ, zero, suc, _+_, _*_, _≤_, _<_}
+use mathlib.Core.Path.{_≡_, refl, sym, subst}
+use mathlib.Core.Bool.{Bool, true, false, cond, not, _&&_}
 use mathlib.Core.List.{List, [], _∷_}
 use native.Mathlib.Omega.{arith}
-use lib.Dec.{T, ltb, leb, eqb}
-use lib.Ieee.{Float, inFloat, binary64}
-use lib.IntN.{pos}
+use lib.Dec.{T, leb, eqb}
+use lib.Ieee.{Float}
 use lib.ListN.{length, getD}
-use borrow.Author.Tests.{le-leb, leb-true, ltb-true, eqb-true}
+use borrow.Author.Tests.{leb-true, ltb-true, eqb-true}
 use Rattle.loops.specs.Loop.{tab, _!_}
-use Rattle.evaluation.specs.Evaluation.{allFinite}
 use native.Mathlib.Nat.{mul-le-mul}
 use Rattle.methods.specs.declared.Kind.{Kind}
 use Rattle.methods.specs.declared.StepResult.{StepResult}
@@ -23,11 +21,11 @@ use Rattle.methods.specs.declared.Kind.the-variants.{Question, Done}
 use Rattle.session.specs.declared.Session.{Session}
 use Rattle.session.specs.declared.Told.{Told}
 use Rattle.session.specs.declared.Answer.{Answer}
-use Rattle.session.specs.declared.Answer.the-variants.{Ask, Ready, Resting, Refused}
+use Rattle.session.specs.declared.Answer.the-variants.{Refused}
 use Rattle.session.specs.declared.Attempt.{Attempt}
 use Rattle.session.specs.declared.Attempt.the-variants.{None, Supplied, Differenced}
 use Rattle.session.specs.declared.Phase.{Phase}
-use Rattle.session.specs.declared.Phase.the-variants.{Any, Rest, Asking, Waiting}
+use Rattle.session.specs.declared.Phase.the-variants.{Asking}
 use Rattle.session.specs.declared.Wish.{Wish}
 
 true≢false : {A : Type 0} → true ≡ false → A
@@ -134,10 +132,6 @@ except-refused (suc k) s o r h = refl
 pub except-none : (k : ℕ) (s : Session) (o : List Float) (r : Outcome) → k ≡ 0 → r ≡ except k s o r
 unfolding except
 except-none k s o r h = rw h
-
--- sessions that an attempt has begun in, and that have one answer more
-begun-wanted : (k n : ℕ) (w : Wish) → 0 ≤ wanted k n (attemptOf w)
-begun-wanted k n w = omega arith
 
 pub begun-sound : (s : Session) (h : Float) (w : Wish) (j : List Float) → Sound s → Sound (begun s h (attemptOf w) j)
 unfolding begun

@@ -1,25 +1,23 @@
 -- Demand 1 of the definitions: the number of each call, and what a refusal leaves. Assumes nothing.
-use Prim.Native.Nat.{ℕ, zero, suc, _<_, _≤_}
+use Prim.Native.Nat.{ℕ, zero, suc, _<_}
 use mathlib.Core.Path.{_≡_, refl, sym, ap, _∙_, subst}
 use mathlib.Core.Logic.{_⊎_, inl, inr}
-use mathlib.Core.Bool.{Bool, true, false, cond, _&&_}
+use mathlib.Core.Bool.{Bool, true, false, cond}
 use mathlib.Core.List.{List, [], _∷_, _++_}
 use native.Mathlib.Omega.{arith}
 use lib.Dec.{eqb}
 use lib.Ieee.{Float, le}
 use lib.ListN.{length}
 use Rattle.float.specs.Arith.{_⊕_, epsilon, finite}
-use Rattle.evaluation.specs.Evaluation.{allFinite}
 use Rattle.methods.specs.Step.{Progress, refused, asking, ended}
 use Rattle.session.specs.declared.Session.{Session}
 use Rattle.session.specs.declared.Told.{Told}
-use Rattle.session.specs.declared.Answer.{Answer}
-use Rattle.session.specs.declared.Answer.the-variants.{Ask, Ready, Resting, FirstStep, Refused}
+use Rattle.session.specs.declared.Answer.the-variants.{Resting, FirstStep, Refused}
 use Rattle.session.specs.declared.Attempt.{Attempt}
 use Rattle.session.specs.declared.Phase.{Phase}
 use Rattle.session.specs.declared.Phase.the-variants.{Any, Rest, Asking, Waiting}
-use Rattle.session.specs.Session.{clear, usedJacobian, stepOk, good1, good2, good7, good4, good5, good3, fault, progress}
-use Rattle.session.specs.Calls.{Outcome, outcome, tell, unless, except, opened, nothing, begun, answered, moved, readyOf, rested, shown, arrived, settled, attemptOf, faultVector, faultBegin, openCall, beginCall, supplyCall, acceptCall, dropCall, firstStepCall}
+use Rattle.session.specs.Session.{fault, progress}
+use Rattle.session.specs.Calls.{Outcome, tell, unless, except, opened, nothing, begun, answered, moved, readyOf, rested, shown, arrived, settled, attemptOf, faultVector, faultBegin, openCall, beginCall, supplyCall, acceptCall, dropCall, firstStepCall}
 use Rattle.session.specs.Refusals.{number, First, sessionTests, beginTests, vectorTests, works, ends, Numbers, Kept, Unchanged, Refusals}
 
 -- ---- a chain of tests

@@ -1,6 +1,6 @@
 -- The bare exponential, phi action and error norm: they hold no session. Definitions only.
 use Prim.Native.Nat.{ℕ, zero, suc, _*_}
-use mathlib.Core.Bool.{Bool, cond, _&&_}
+use mathlib.Core.Bool.{cond, _&&_}
 use mathlib.Core.List.{List}
 use lib.Dec.{leb, eqb}
 use lib.Ieee.{Float}

@@ -1,6 +1,5 @@
 -- A session, what a call refuses it for, and how far its attempt has come. Definitions only.
 use Prim.Native.Nat.{ℕ, _+_, _-_, _*_, _/_, _%_, _≤_}
-use mathlib.Core.Path.{_≡_}
 use mathlib.Core.Bool.{Bool, true, false, cond, not, _&&_, _||_}
 use mathlib.Core.List.{List}
 use lib.Dec.{ltb, leb, eqb}

@@ -3,7 +3,7 @@ use Prim.Native.Nat.{_-_, _/_, _%_, _≤_}
 use native.Mathlib.Omega.{arith}
 use mathlib.Core.Path.{_≡_}
 use lib.ListN.{length, length-set}
-use Rattle.loops.specs.Loop.{fill, _!_}
+use Rattle.loops.specs.Loop.{fill}
 use Rattle.float.specs.Arith.{_⊗_}
 use Rattle.matrix.specs.Matrix.{at}
 use Rattle.loops.proofs.Loops.{fill-none, fill-call}

@@ -7,7 +7,7 @@ use Prim.Native.Nat.{ℕ, suc}
 use mathlib.Core.List.{List}
 use mathlib.Core.Bool.{false}
 use lib.Ieee.{Float}
-use lib.ListN.{List·getD-eq-default, replicate}
+use lib.ListN.{List·getD-eq-default}
 use Rattle.matrix.specs.Vector.{zeros}
 use Rattle.methods.specs.declared.Point.{Point}
 use Rattle.methods.specs.Pass.{Stand, fails, done, replay}

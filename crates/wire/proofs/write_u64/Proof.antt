@@ -1,5 +1,4 @@
 -- `wire::write_u64` meets its contract. Assumes nothing.
-use native.Mathlib.Omega.{arith}
 use borrow.Author.Needs.{needs}
 use Rattle.wire.specs.Wire.{put64}
 use Rattle.wire.proofs.write_u64.Statement.{statement}
