@@ -82,8 +82,12 @@ fn table(runs: &[Run], reference: &[State]) -> String {
         "run", "frames", "refused", "not finite", "silently wrong", "largest off", "off at end"
     );
     for run in runs {
-        let refused: Vec<u8> =
-            run.faults.iter().flatten().filter_map(|f| if let Fault::Refused(n) = f { Some(*n) } else { None }).collect();
+        let refused: Vec<u8> = run
+            .faults
+            .iter()
+            .flatten()
+            .filter_map(|f| if let Fault::Refused(n) = f { Some(*n) } else { None })
+            .collect();
         let mut by_number: Vec<String> = Vec::new();
         for number in 1..=7 {
             let count = refused.iter().filter(|n| **n == number).count();

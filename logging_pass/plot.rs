@@ -241,5 +241,13 @@ fn legend(svg: &mut String, runs: &[Run]) {
     }
     writeln!(svg, r##"<rect x="{LEFT}" y="87" width="30" height="13" fill="#f4ecd8"/>"##).unwrap();
     text(svg, LEFT + 38.0, 98.0, "start", 13.0, INK, "cable slack");
-    text(svg, LEFT + 150.0, 98.0, "start", 13.0, INK, "&#10005; a curve leaves the picture and does not come back");
+    text(
+        svg,
+        LEFT + 150.0,
+        98.0,
+        "start",
+        13.0,
+        INK,
+        "&#10005; a curve leaves the picture and does not come back",
+    );
 }
