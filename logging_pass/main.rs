@@ -3,7 +3,14 @@
 mod model;
 mod plot;
 mod steppers;
+// The core: the crate of host/, the console at the end of a pipe, or the oracle's model (logging_pass/test).
+#[cfg(host)]
+extern crate vunchrem;
+#[cfg(not(any(host, model)))]
 #[path = "pipe.rs"]
+mod vunchrem;
+#[cfg(model)]
+#[path = "stand_in.rs"]
 mod vunchrem;
 
 use model::{Between, DAMAGED, DEPTH, FRAMES, State, received, start, time};
@@ -130,6 +137,9 @@ fn at_the_damaged_word(runs: &[Run]) -> String {
         };
         text += &format!("  {}: {}; {}\n", run.name, told(DAMAGED), told(DAMAGED + 1));
     }
+    let bits = |run: usize, frame: usize| runs[run].states[frame].map(f64::to_bits);
+    let same = (0..=FRAMES).take_while(|frame| bits(2, *frame) == bits(3, *frame)).count();
+    text += &format!("  up to frame {} the two have the same state to the bit\n", same - 1);
     text
 }
 
