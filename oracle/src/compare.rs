@@ -4,7 +4,7 @@ use crate::bytes::Reader;
 use crate::console::{Console, read_call};
 use crate::random_script::random_script;
 use crate::script::Tally;
-use std::io::{self, Write};
+use std::io::{self, IsTerminal, Write};
 use std::path::Path;
 use std::process::{Command, Stdio};
 
@@ -53,20 +53,29 @@ pub fn first_difference(script: &[u8], replies: &[u8]) -> Option<String> {
 
 /// Runs so many scripts from a seed on; tells the outcomes, and whether every byte was the model's.
 pub fn run(program: &Path, scripts: u64, seed: u64) -> io::Result<bool> {
+    let terminal = io::stderr().is_terminal();
+    let tenth = scripts.div_ceil(10).max(1);
     let mut tally = Tally::default();
     for turn in 0..scripts {
-        let script = random_script(seed + turn, CALLS);
+        let script = random_script(seed.wrapping_add(turn), CALLS);
         let replies = replies_of(program, &script.bytes)?;
-        if let Some(difference) = first_difference(&script.bytes, &replies) {
-            eprintln!("\nscript {}: {difference}", seed + turn);
+        if replies != script.replies {
+            let difference = first_difference(&script.bytes, &replies).unwrap_or("the replies differ".into());
+            eprintln!("\nscript {}: {difference}", seed.wrapping_add(turn));
             return Ok(false);
         }
         tally.add(&script.tally);
-        if turn % 10 == 9 || turn + 1 == scripts {
-            eprint!("\r{} of {scripts} scripts, {} calls", turn + 1, tally.calls());
+        // One line that is written over on a terminal; elsewhere a line for each tenth.
+        let (done, calls) = (turn + 1, tally.calls());
+        if terminal && (done % 10 == 0 || done == scripts) {
+            eprint!("\r{done} of {scripts} scripts, {calls} calls");
+        } else if !terminal && (done % tenth == 0 || done == scripts) {
+            eprintln!("{done} of {scripts} scripts, {calls} calls");
         }
     }
-    eprintln!();
+    if terminal {
+        eprintln!();
+    }
     println!("{} calls in {scripts} scripts, every reply the same", tally.calls());
     print!("{}", tally.report());
     Ok(true)

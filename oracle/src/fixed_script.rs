@@ -1,5 +1,6 @@
 //! The fixed script: every op, every refusal number on the session and on what is handed in, the order of the
-//! checks, every scheme with a Jacobian supplied and differenced, and the examples of document 01.
+//! checks, every scheme with a Jacobian supplied and differenced, and the examples of document 01. The list adds
+//! random calls to it, so that the gate replays them too.
 
 use crate::bits::power_of_two;
 use crate::console::Call;
@@ -8,12 +9,21 @@ use crate::lists::List;
 use crate::model::{Answer, Attempt, Matrix, Opening, PLACES, Session, Vector};
 use crate::pass::{ETD2, QUESTIONS};
 use crate::random::Random;
+use crate::random_script::extended;
 use crate::refused::{self, Kind};
 use crate::script::Script;
 
+/// The random calls of the list, and their seed.
+const RANDOM_CALLS: usize = 3400;
+const RANDOM_SEED: u64 = 0x5eed_0001;
+
 pub fn list() -> List {
-    let script = fixed_script();
-    let summary = format!("{} calls", script.tally.calls());
+    let fixed = fixed_script();
+    let own = fixed.tally.calls();
+    let mut script = extended(fixed, RANDOM_SEED, RANDOM_CALLS);
+    // A call cut short ends the run.
+    script.bytes.extend([crate::console::FIRST_STEP, 0, 0]);
+    let summary = format!("{own} fixed calls, {} random ones", script.tally.calls() - own);
     List { name: "console", input: script.bytes, output: script.replies, summary }
 }
 
@@ -35,8 +45,6 @@ pub fn fixed_script() -> Script {
     refusals_by_6(&mut script);
     forged_past_a_refused_question(&mut script);
     script.call(&Call::Show);
-    // A call cut short ends the run.
-    script.bytes.extend([crate::console::FIRST_STEP, 0, 0]);
     script
 }
 

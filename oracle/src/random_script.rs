@@ -11,8 +11,14 @@ use crate::script::Script;
 
 /// A script of about so many calls.
 pub fn random_script(seed: u64, calls: usize) -> Script {
-    let mut host = Host::new(seed);
-    while host.script.tally.calls() < calls {
+    extended(Script::default(), seed, calls)
+}
+
+/// The script with about so many random calls after its own.
+pub fn extended(script: Script, seed: u64, calls: usize) -> Script {
+    let before = script.tally.calls();
+    let mut host = Host::new(script, seed);
+    while host.script.tally.calls() < before + calls {
         host.turn();
     }
     host.script.call(&Call::Show);
@@ -52,10 +58,10 @@ struct Host {
 }
 
 impl Host {
-    fn new(seed: u64) -> Self {
+    fn new(script: Script, seed: u64) -> Self {
         let mut random = Random::new(seed);
         let field = Field::new(1, 1.0, &mut random);
-        Self { random, script: Script::default(), field, shown: None, refused: 0 }
+        Self { random, script, field, shown: None, refused: 0 }
     }
 
     fn session(&self) -> &Session {
@@ -142,7 +148,7 @@ impl Host {
         let stiffness = random.pick(&[0.0, 1.0, 1.0, 30.0, 1e3, 1e5, 1e8, 1e12]);
         self.field = Field::new(n, stiffness, random);
         let time = random.pick(&[0.0, 1.0, -3.5, 1e3]);
-        let size = random.pick(&[1.0, 1.0, 1.0, 1e-3, 1e3, 1e-308]);
+        let size = random.pick(&[1.0, 1.0, 1.0, 1.0, 1.0, 1e-3, 1e3, 1e3, 1e-308, 1e306]);
         let state = self.vector(n, size);
         let held = scheme == ETD2 && self.random.chance(2);
         let history = if held { self.vector(n, size) } else { [0.0; PLACES] };
@@ -228,8 +234,10 @@ impl Host {
         match self.shown.as_ref().filter(fits) {
             Some((time, state)) if self.field.dimension() == n && !self.random.chance(10) => {
                 derivative[..n].copy_from_slice(&self.field.at(*time, state));
+                self.script.tally.note("answers of a smooth right-hand side");
             }
             _ => {
+                self.script.tally.note("answers out of the air");
                 let size = self.random.pick(&[1.0, 1e3, 1e10, 1e305]);
                 derivative = self.vector(n, size);
             }
@@ -249,9 +257,14 @@ impl Host {
         self.random.pick(&ODD)
     }
 
-    /// A finite word of any size.
+    /// A finite word of any size; every third time one that brings the Rust's squaring count to 1024, or near it.
     fn word(&mut self) -> f64 {
-        self.random.any_finite()
+        if self.random.chance(3) {
+            let exponent = self.random.pick(&[1020, 1021, 1022, 1022, 1022, 1023]);
+            self.random.pick(&[1.0, -1.0]) * (1.0 + 0.5 * self.random.unit().abs()) * power_of_two(exponent)
+        } else {
+            self.random.any_finite()
+        }
     }
 
     fn largest(&mut self) -> f64 {
@@ -412,12 +425,30 @@ impl Host {
         } else {
             1 + self.random.below(8)
         };
+        if self.random.chance(5) {
+            return self.at_a_power_of_two();
+        }
         let places = (size * size).min(512);
         let given = if self.random.chance(8) { self.lent(places) } else { places };
         Call::Exponential {
             size: size as u8,
             entries: self.entries(given),
             lent: if self.random.chance(8) { self.lent(places) } else { places },
+        }
+    }
+
+    /// A matrix whose row sum is a power of two or a neighbour of it, where the number of squarings changes.
+    fn at_a_power_of_two(&mut self) -> Call {
+        self.script.tally.note("row sums beside a power of two");
+        let power = power_of_two(self.random.below(36) as i32 - 3);
+        let norm = self.random.pick(&[power, power.next_up(), power.next_down(), power.next_up().next_up()]);
+        let entry = self.random.pick(&[1.0, -1.0]) * norm;
+        let other = self.random.unit();
+        let entries = self.random.pick(&[[entry, 0.0, 0.0, other], [0.0, other, entry, -0.0]]);
+        if self.random.chance(2) {
+            Call::Exponential { size: 1, entries: vec![entry], lent: 1 }
+        } else {
+            Call::Exponential { size: 2, entries: entries.to_vec(), lent: 4 }
         }
     }
 

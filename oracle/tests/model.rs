@@ -11,6 +11,7 @@ use oracle::pass::ETD2;
 use oracle::random::Random;
 use oracle::random_script::random_script;
 use oracle::refused::{self, Kind};
+use oracle::script::Tally;
 use oracle::{OdeProblem, SolveOptions, SolverStats, published};
 
 fn vector(values: &[f64]) -> Vector {
@@ -176,6 +177,57 @@ fn the_fixed_script_covers_every_op_and_refusal() {
         }
     }
     assert_eq!(console::run(&script.bytes), script.replies);
+}
+
+/// What oracle compare runs a program over.
+#[test]
+fn the_random_scripts_cover_what_a_host_can_do() {
+    let mut tally = Tally::default();
+    for seed in 0..60 {
+        tally.add(&random_script(seed, 1000).tally);
+    }
+    for scheme in 0..16 {
+        for supplied in [true, false] {
+            assert!(tally.ready.contains_key(&(scheme, supplied)), "scheme {scheme}");
+        }
+    }
+    for n in 1..=16 {
+        assert!(tally.dimensions.contains_key(&n), "dimension {n}");
+    }
+    for number in 1..=5 {
+        for place in ["the session", "what is handed in"] {
+            let kind = format!("refused by {number} on {place}");
+            assert!(tally.kinds.contains_key(&*kind), "{kind}");
+        }
+    }
+    for (op, numbers) in [
+        ("open", &[1, 2, 3, 4][..]),
+        ("begin", &[1, 2, 3, 4, 5, 6, 7]),
+        ("supply", &[1, 2, 3, 4, 5, 6, 7]),
+        ("accept", &[1, 2, 3, 4, 5, 6, 7]),
+        ("drop", &[1, 2, 3, 4, 5]),
+        ("first step", &[1, 2, 3, 4, 5]),
+        ("bare exponential", &[1, 3, 6]),
+        ("bare phi action", &[1, 3, 6]),
+        ("bare error norm", &[1, 3, 4]),
+    ] {
+        for number in numbers {
+            let outcome = format!("refused by {number}");
+            assert!(tally.outcomes.contains_key(&(op, outcome)), "{op} by {number}");
+        }
+    }
+    for kind in [
+        "answers of a smooth right-hand side",
+        "answers out of the air",
+        "begun soft (row sums of h J up to 1)",
+        "begun between (row sums of h J up to 100)",
+        "begun stiff (row sums of h J above 100)",
+        "calls with a huge finite word",
+        "row sums beside a power of two",
+    ] {
+        assert!(tally.kinds[kind] > 50, "{kind}");
+    }
+    assert!(tally.outcomes[&("load", "done".into())] > 50);
 }
 
 /// The checks on a session and on what is handed in, each with everything after it wrong too.
