@@ -8,7 +8,7 @@ use lib.Dec.{T, eqb}
 use lib.Pow.{pow-pos}
 use lib.IntN.{ℤ, pos, negsuc}
 use lib.Count.{trailingZeros}
-use lib.Ieee.{Float, nan, inf, fin, binary64, lt, eq, ne, neg, div, isNan, fits, ofBits, ofFields, odd, up, down, level}
+use lib.Ieee.{Float, nan, inf, fin, binary64, lt, eq, ne, neg, div, isNan, fits, ofBits, ofFields, odd, up, down, level, toBits, size, span, climb}
 use borrow.Author.Tests.{ltb-true, ltb-false, eqb-true, eq-eqb, ne-eqb}
 use Rattle.float.specs.Arith.{_⊘_, zero+, one, abs, larger, finite, plusZero}
 
@@ -37,7 +37,7 @@ between (fin s m e) = refl
 not-level : (m : ℕ) (e : ℤ) → eqb (suc m * up e * 1) (0 * down e) ≡ false
 not-level m e = ne-eqb (suc m * up e * 1) (0 * down e) (λ h. omega (arith, h, mul-pos {m = suc m} {n = up e} (omega arith) (up-pos e)))
 
-pub is-plus : (x : Float) → (eq x zero+ && lt zero+ (one ⊘ x)) ≡ plusZero x
+is-plus : (x : Float) → (eq x zero+ && lt zero+ (one ⊘ x)) ≡ plusZero x
 unfolding lt eq div plusZero ofBits ofFields odd trailingZeros
 is-plus nan = refl
 is-plus (inf true) = refl
@@ -66,6 +66,32 @@ abs-zero nan f h = false≢true h
 abs-zero (inf s) f h = false≢true h
 abs-zero (fin s zero e) f h = ap (fin false zero) (sym (zero-exponent e (eqb-true _ _ f)))
 abs-zero (fin s (suc m) e) f h = absurd (omega (arith, eqb-true (suc m * up e * 1) (0 * down e) (and-left (eqb (suc m * up e * 1) (0 * down e)) (Bool·beq s false || eqb (suc m * up e * 1) 0) h), mul-pos {m = suc m} {n = up e} (omega arith) (up-pos e)))
+
+-- a zero, by its pattern
+pub zero-number : (x : Float) → eq x zero+ ≡ true → T (not (isNan x))
+unfolding eq isNan ofBits ofFields odd
+zero-number nan h = false≢true h
+zero-number (inf s) h = tt
+zero-number (fin s m e) h = tt
+
+plus-pattern : eqb (toBits binary64 (fin false 0 (pos 0))) 0 ≡ true
+unfolding toBits size span climb
+plus-pattern = refl
+
+minus-pattern : eqb (toBits binary64 (fin true 0 (pos 0))) 0 ≡ false
+unfolding toBits size span climb
+minus-pattern = refl
+
+pub zero-pattern : (x : Float) → fits binary64 x ≡ true → eq x zero+ ≡ true → eqb (toBits binary64 x) 0 ≡ plusZero x
+unfolding eq fits plusZero ofBits ofFields odd trailingZeros
+zero-pattern nan f h = false≢true h
+zero-pattern (inf s) f h = false≢true h
+zero-pattern (fin true zero e) f h = ap (λ z. eqb (toBits binary64 (fin true 0 z)) 0) (zero-exponent e (eqb-true _ _ f)) ∙ minus-pattern
+zero-pattern (fin false zero e) f h = ap (λ z. eqb (toBits binary64 (fin false 0 z)) 0) (zero-exponent e (eqb-true _ _ f)) ∙ plus-pattern
+zero-pattern (fin s (suc m) e) f h = absurd (omega (arith, eqb-true (suc m * up e * 1) (0 * down e) (and-left (eqb (suc m * up e * 1) (0 * down e)) (Bool·beq s false || eqb (suc m * up e * 1) 0) h), mul-pos {m = suc m} {n = up e} (omega arith) (up-pos e)))
+
+pub no-zero : (x : Float) → eq x zero+ ≡ false → false ≡ plusZero x
+no-zero x h = rw h at (is-plus x)
 
 level-zero : (a b : ℕ) → a ≡ 0 → b ≡ 0 → level true a false b ≡ true
 unfolding _&&_ _||_ Bool·beq

@@ -16,11 +16,11 @@ pub fn finite(x: f64) -> bool
     (-top < x) & (x < top)
 }
 
-// Whether x is +0.0, by value: a NaN's bits are never looked at.
+// Whether x is +0.0: first by value, so that a NaN's bits are never looked at.
 pub fn plus_zero(x: f64) -> bool
     ensures { λ r. ⌜ r ≡ plusZero x ⌝ }
 {
-    (x == 0.0) & (0.0 < 1.0 / x)
+    if x == 0.0 { f64::to_bits(x) == 0 } else { false }
 }
 
 // The absolute value; that of a zero is +0.0.
