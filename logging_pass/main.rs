@@ -3,6 +3,7 @@
 mod model;
 mod plot;
 mod steppers;
+mod sweep;
 // The core: the crate of host/, the console at the end of a pipe, or the oracle's model (logging_pass/test).
 #[cfg(host)]
 extern crate vunchrem;
@@ -144,6 +145,10 @@ fn at_the_damaged_word(runs: &[Run]) -> String {
 }
 
 fn main() {
+    if std::env::args().nth(1).as_deref() == Some("--sweep") {
+        print!("{}", sweep::report(&reference(256)));
+        return;
+    }
     let out = std::env::args().nth(1).unwrap_or("target/demo".into());
     let out = Path::new(&out);
     let mut progress = Progress { terminal: std::io::stderr().is_terminal() };

@@ -138,13 +138,14 @@ pub fn sent(frame: usize) -> Words {
     Words { axial: planned(time).1, lateral: 0.7 + 0.2 * shake + tight_hole }
 }
 
-/// The words as they were received: one bit of one word, the highest of its exponent, is not as it was sent.
+/// The words with one bit of one of them, the highest of its exponent, not as it was sent.
+pub fn flipped(words: Words) -> Words {
+    Words { lateral: f64::from_bits(words.lateral.to_bits() ^ 1 << 62), ..words }
+}
+
+/// The words as they were received.
 pub fn received(frame: usize) -> Words {
-    let mut words = sent(frame);
-    if frame == DAMAGED {
-        words.lateral = f64::from_bits(words.lateral.to_bits() ^ 1 << 62);
-    }
-    words
+    if frame == DAMAGED { flipped(sent(frame)) } else { sent(frame) }
 }
 
 /// Hanging still.

@@ -2,8 +2,8 @@
 
 use crate::bytes::Reader;
 use crate::console::{Console, read_call};
-use crate::random_script::random_script;
-use crate::script::Tally;
+use crate::random_script::{damaged, random_script};
+use crate::script::{Script, Tally};
 use std::io::{self, IsTerminal, Write};
 use std::path::Path;
 use std::process::{Command, Stdio};
@@ -51,22 +51,32 @@ pub fn first_difference(script: &[u8], replies: &[u8]) -> Option<String> {
     (replies.len() > before).then(|| format!("{} bytes too many", replies.len() - before))
 }
 
-/// Runs so many scripts from a seed on; tells the outcomes, and whether every byte was the model's.
+/// Runs so many scripts from a seed on, each as it is and damaged; tells the outcomes, and whether every byte was the
+/// model's.
 pub fn run(program: &Path, scripts: u64, seed: u64) -> io::Result<bool> {
     let terminal = io::stderr().is_terminal();
     let tenth = scripts.div_ceil(10).max(1);
-    let mut tally = Tally::default();
+    let mut whole = Tally::default();
+    let mut broken = Tally::default();
     for turn in 0..scripts {
-        let script = random_script(seed.wrapping_add(turn), CALLS);
-        let replies = replies_of(program, &script.bytes)?;
-        if replies != script.replies {
-            let difference = first_difference(&script.bytes, &replies).unwrap_or("the replies differ".into());
-            eprintln!("\nscript {}: {difference}", seed.wrapping_add(turn));
-            return Ok(false);
+        let seed = seed.wrapping_add(turn);
+        let script = random_script(seed, CALLS);
+        let bad_line = damaged(&script.bytes, seed);
+        let bad = Script::replay(&bad_line);
+        for (kind, bytes, expected) in
+            [("script", &script.bytes, &script.replies), ("damaged script", &bad_line, &bad.replies)]
+        {
+            let replies = replies_of(program, bytes)?;
+            if replies != *expected {
+                let difference = first_difference(bytes, &replies).unwrap_or("the replies differ".into());
+                eprintln!("\n{kind} {seed}: {difference}");
+                return Ok(false);
+            }
         }
-        tally.add(&script.tally);
+        whole.add(&script.tally);
+        broken.add(&bad.tally);
         // One line that is written over on a terminal; elsewhere a line for each tenth.
-        let (done, calls) = (turn + 1, tally.calls());
+        let (done, calls) = (turn + 1, whole.calls() + broken.calls());
         if terminal && (done % 10 == 0 || done == scripts) {
             eprint!("\r{done} of {scripts} scripts, {calls} calls");
         } else if !terminal && (done % tenth == 0 || done == scripts) {
@@ -76,7 +86,9 @@ pub fn run(program: &Path, scripts: u64, seed: u64) -> io::Result<bool> {
     if terminal {
         eprintln!();
     }
-    println!("{} calls in {scripts} scripts, every reply the same", tally.calls());
-    print!("{}", tally.report());
+    println!("{} calls in {scripts} scripts, every reply the same", whole.calls());
+    print!("{}", whole.report());
+    println!("{} calls in the same scripts damaged on the way, every reply the same", broken.calls());
+    print!("{}", broken.report());
     Ok(true)
 }

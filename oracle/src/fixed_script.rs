@@ -44,6 +44,7 @@ pub fn fixed_script() -> Script {
     bare_calls(&mut script, &mut random);
     refusals_by_6(&mut script);
     forged_past_a_refused_question(&mut script);
+    bytes_that_count_as_others(&mut script);
     script.call(&Call::Show);
     script
 }
@@ -499,6 +500,27 @@ fn forged_past_a_refused_question(script: &mut Script) {
         script.call(&if ready { accept(0.0) } else { supply(0.0) });
     }
     script.call(&Call::Show);
+}
+
+/// A history or wish above 1 counts as 1, an attempt above 2 as 2.
+fn bytes_that_count_as_others(script: &mut Script) {
+    let mut written_as = |call: &Call, place: usize, byte: u8| {
+        let at = script.bytes.len();
+        script.call(call);
+        script.bytes[at + place] = byte;
+    };
+    for byte in [2, 3, 128, 255] {
+        let held = Opening { history_held: true, history: vector(&[1.0]), ..opening(ETD2, 1.0, 2.0) };
+        written_as(&Call::Open(held), 3, byte);
+        written_as(&begin(1.0, 0.0), 1, byte);
+        written_as(&Call::Show, 0, crate::console::SHOW);
+        let mut session = in_attempt(0);
+        session.attempt = Attempt::Differenced;
+        session.jacobian[0] = 0.0;
+        written_as(&Call::Load(Box::new(session)), 4, byte);
+        written_as(&supply(1.0), 0, crate::console::SUPPLY);
+        written_as(&Call::Show, 0, crate::console::SHOW);
+    }
 }
 
 /// n = 1, f0 = 1, step 1, in an attempt with a Jacobian and answers.

@@ -2,7 +2,8 @@
 //! calls out of turn.
 
 use crate::bits::power_of_two;
-use crate::console::Call;
+use crate::bytes::Reader;
+use crate::console::{Call, SUPPLY, read_call};
 use crate::field::Field;
 use crate::model::{ANSWERS, Answer, Attempt, Matrix, Opening, PLACES, Session, Vector};
 use crate::pass::{ETD2, QUESTIONS};
@@ -23,6 +24,38 @@ pub fn extended(script: Script, seed: u64, calls: usize) -> Script {
     }
     host.script.call(&Call::Show);
     host.script
+}
+
+/// The script as a bad line would bring it: bits flipped, odd bytes at the head of a call, and an end out of place.
+pub fn damaged(script: &[u8], seed: u64) -> Vec<u8> {
+    let mut random = Random::new(seed ^ 0xda3a_6ed0);
+    let mut reader = Reader::new(script);
+    let mut heads = Vec::new();
+    loop {
+        let at = script.len() - reader.left();
+        if read_call(&mut reader).is_none() {
+            break;
+        }
+        heads.push(at);
+    }
+    let mut bytes = script.to_vec();
+    for _ in 0..random.below(30) {
+        let place = random.below(bytes.len());
+        bytes[place] ^= 1 << random.below(8);
+    }
+    // After the op come a scheme, a dimension, a size, an order, or what counts as 0 or 1.
+    for _ in 0..random.below(30) {
+        let place = random.pick(&heads) + 1 + random.below(5);
+        if let Some(byte) = bytes.get_mut(place).filter(|_| !heads.contains(&place)) {
+            *byte = random.pick(&[0, 1, 2, 3, 16, 17, 20, 21, 128, 255]);
+        }
+    }
+    match random.below(3) {
+        0 => bytes.truncate(random.below(bytes.len())),
+        1 => bytes.extend([random.pick(&[11, 12, 200, 255]), 4, 4, 9]),
+        _ => bytes.extend([&[SUPPLY][..], &[0; PLACES * 8], &[1, 2], &[9]].concat()),
+    }
+    bytes
 }
 
 /// Numbers that a test may trip over, finite or not.

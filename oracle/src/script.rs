@@ -1,7 +1,8 @@
 //! Scripts for the console, made call by call beside the model, so that a host in them can answer what is asked.
 
 use crate::bits::power_of_two;
-use crate::console::{Call, Console, Told, put_call};
+use crate::bytes::Reader;
+use crate::console::{Call, Console, Told, put_call, read_call};
 use crate::model::{Answer, Attempt};
 use std::collections::BTreeMap;
 
@@ -78,6 +79,16 @@ pub struct Script {
 }
 
 impl Script {
+    /// The calls of these bytes, as far as they are calls. A byte that counts as another is written as that one.
+    pub fn replay(bytes: &[u8]) -> Self {
+        let mut script = Self::default();
+        let mut reader = Reader::new(bytes);
+        while let Some(call) = read_call(&mut reader) {
+            script.call(&call);
+        }
+        script
+    }
+
     pub fn call(&mut self, call: &Call) -> Told {
         put_call(&mut self.bytes, call);
         self.note_what_is_handed_in(call);

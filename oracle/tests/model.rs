@@ -9,9 +9,9 @@ use oracle::fixed_script::fixed_script;
 use oracle::model::{Answer, Attempt, Opening, PLACES, Session, Vector, bare_exponential, bare_phi_action};
 use oracle::pass::ETD2;
 use oracle::random::Random;
-use oracle::random_script::random_script;
+use oracle::random_script::{damaged, random_script};
 use oracle::refused::{self, Kind};
-use oracle::script::Tally;
+use oracle::script::{Script, Tally};
 use oracle::{OdeProblem, SolveOptions, SolverStats, published};
 
 fn vector(values: &[f64]) -> Vector {
@@ -570,6 +570,21 @@ fn a_changed_byte_of_a_reply_is_found() {
     changed = script.replies.clone();
     changed.push(0);
     assert!(first_difference(&script.bytes, &changed).is_some());
+}
+
+/// What oracle compare sends as a bad line's script: still calls, and other ones.
+#[test]
+fn a_damaged_script_is_another_and_has_calls() {
+    let mut calls = 0;
+    for seed in 0..20 {
+        let script = random_script(seed, 300);
+        let bytes = damaged(&script.bytes, seed);
+        assert!(bytes != script.bytes);
+        let replayed = Script::replay(&bytes);
+        assert_eq!(replayed.replies, console::run(&bytes));
+        calls += replayed.tally.calls();
+    }
+    assert!(calls > 1000, "{calls}");
 }
 
 #[test]
