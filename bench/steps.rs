@@ -64,37 +64,41 @@ fn case(n: usize, stiffness: f64) -> Case {
     Case { n, stiffness, step: 0.01, state, f0, jacobian }
 }
 
-/// Questions answered until the attempt is ready.
-fn answer(session: &mut Session, mut progress: Progress, stiffness: f64) -> Vec<f64> {
+/// Questions answered until the attempt is ready, or refused.
+fn answer(session: &mut Session, mut progress: Progress, stiffness: f64) -> Option<Vec<f64>> {
     loop {
         match progress {
             Progress::Ask { state, .. } => {
                 let mut du = vec![0.0; state.len()];
                 chain(stiffness, &state, &mut du);
-                progress = session.supply(&du).unwrap();
+                progress = session.supply(&du).ok()?;
             }
-            Progress::Ready { candidate, .. } => return candidate,
+            Progress::Ready { candidate, .. } => return Some(candidate),
         }
     }
 }
 
 fn main() {
-    println!("soft: the Jacobian's row sums times the step are about 0.02; stiff: about 200. Microseconds, and core / Rust.\n");
-    for (name, stiffness) in [("soft", 1.0), ("stiff", 10_000.0)] {
+    println!("soft: the Jacobian's row sums times the step are about 0.02; stiff: about 20. Microseconds, and core / Rust.\n");
+    for (name, stiffness) in [("soft", 1.0), ("stiff", 1_000.0)] {
         println!("{name:<12} {:>2}  {:>10} {:>10} {:>6}   {:>10} {:>10} {:>6}", "n", "pass: Rust", "core", "ratio", "step: Rust", "core", "ratio");
         for (number, scheme) in SCHEMES.into_iter().enumerate() {
             for n in [1, 3, 8, 16] {
                 let c = case(n, stiffness);
                 let problem = OdeProblem::new(move |du: &mut [f64], u: &[f64], _: &(), _: f64| {
-        chain(stiffness, u, du);
-        Ok::<(), SolveError>(())
-    });
+                    chain(stiffness, u, du);
+                    Ok::<(), SolveError>(())
+                });
                 let pass = |jacobian: &[f64]| {
                     published::perform_step(number, &problem, &c.state, 0.0, c.step, &c.f0, jacobian, None, &mut SolverStats::default()).unwrap()
                 };
                 let mut session = Session::open(scheme, 0.0, &c.state, &c.f0, TOLERANCE, TOLERANCE).unwrap();
                 let first = session.begin(c.step, Some(&c.jacobian)).unwrap();
-                let candidate = answer(&mut session, first, c.stiffness);
+                let Some(candidate) = answer(&mut session, first, c.stiffness) else {
+                    let rust = published::perform_step(number, &problem, &c.state, 0.0, c.step, &c.f0, &c.jacobian, None, &mut SolverStats::default());
+                    println!("{:<12} {:>2}  refused by 6; the Rust: {}", published::name(number), c.n, if rust.is_err() { "an error" } else { "a candidate" });
+                    continue;
+                };
                 session.drop_attempt().unwrap();
                 let same = candidate.iter().zip(&pass(&c.jacobian).candidate).all(|(a, b)| a.to_bits() == b.to_bits());
                 let rust_pass = time(|| {
