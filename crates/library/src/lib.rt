@@ -13,7 +13,10 @@ ghost use mathlib.Core.Path.{_≡_};
 ghost use Prim.Native.Nat.{_+_, _≤_};
 ghost use lib.ListN.{length, set};
 ghost use Rattle.loops.specs.Loop.{stores, _!_};
-ghost use Rattle.library.specs.Library.{part};
+ghost use mathlib.Core.List.{[], _∷_};
+ghost use Rattle.library.specs.Library.{part, schemeOf, historyOf, attemptAt, wishOf, historyNumber, attemptNumber, unpacked, packedNumbers, packedFigures, replied, wordsOf, figureOf, isRefused, Said, Back, Crossing, Lent, Heard, Still};
+ghost use Rattle.session.specs.Calls.{openCall, beginCall, supplyCall, acceptCall, dropCall, firstStepCall};
+ghost use Rattle.session.specs.Bare.{exponentialCall, phiCall, normCall};
 
 use session::Answer;
 use session::Attempt;
@@ -103,33 +106,45 @@ fn put_answers(x: [f64; 320], out: &mut [f64], at: usize)
 
 // ---- enums as numbers
 
-fn scheme_of(x: u64) -> u8 {
+fn scheme_of(x: u64) -> u8
+    ensures { λ r. ⌜ r ≡ schemeOf x ⌝ }
+{
     if x < 256 { x as u8 } else { 255 }
 }
 
-fn history_of(x: u64) -> History {
+fn history_of(x: u64) -> History
+    ensures { λ r. ⌜ r ≡ historyOf x ⌝ }
+{
     if x == 0 { History::Missing } else { History::Held }
 }
 
-fn attempt_of(x: u64) -> Attempt {
+fn attempt_of(x: u64) -> Attempt
+    ensures { λ r. ⌜ r ≡ attemptAt x ⌝ }
+{
     if x == 0 {
         return Attempt::None;
     }
     if x == 1 { Attempt::Supplied } else { Attempt::Differenced }
 }
 
-fn wish_of(x: u64) -> Wish {
+fn wish_of(x: u64) -> Wish
+    ensures { λ r. ⌜ r ≡ wishOf x ⌝ }
+{
     if x == 0 { Wish::Difference } else { Wish::Given }
 }
 
-fn history_number(h: History) -> u64 {
+fn history_number(h: History) -> u64
+    ensures { λ r. ⌜ r ≡ historyNumber h ⌝ }
+{
     match h {
         History::Missing => 0,
         History::Held => 1,
     }
 }
 
-fn attempt_number(a: Attempt) -> u64 {
+fn attempt_number(a: Attempt) -> u64
+    ensures { λ r. ⌜ r ≡ attemptNumber a ⌝ }
+{
     match a {
         Attempt::None => 0,
         Attempt::Supplied => 1,
@@ -141,6 +156,7 @@ fn attempt_number(a: Attempt) -> u64 {
 
 fn unpack(numbers: &[u64], figures: &[f64]) -> Session
     requires { ⌜ (length (now numbers) ≡ 5) × (length (now figures) ≡ 628) ⌝ }
+    ensures { λ r. ⌜ r ≡ unpacked (now (numbers .entry)) (now (figures .entry)) ⌝ }
 {
     let scheme = scheme_of(numbers[0]);
     let n = numbers[1] as usize;
@@ -172,6 +188,7 @@ fn unpack(numbers: &[u64], figures: &[f64]) -> Session
 
 fn put_numbers(s: Session, numbers: &mut [u64])
     requires { ⌜ length (now numbers) ≡ 5 ⌝ }
+    ensures { λ _. ⌜ now (numbers .exit) ≡ packedNumbers s ⌝ }
 {
     let history = s.history;
     let attempt = s.attempt;
@@ -194,6 +211,7 @@ fn put_head(time: f64, step: f64, relative: f64, absolute: f64, figures: &mut [f
 
 fn put_figures(s: Session, figures: &mut [f64])
     requires { ⌜ length (now figures) ≡ 628 ⌝ }
+    ensures { λ _. ⌜ now (figures .exit) ≡ packedFigures s ⌝ }
 {
     let state = s.state;
     let derivative = s.derivative;
@@ -210,6 +228,7 @@ fn put_figures(s: Session, figures: &mut [f64])
 
 fn pack(s: Session, numbers: &mut [u64], figures: &mut [f64])
     requires { ⌜ (length (now numbers) ≡ 5) × (length (now figures) ≡ 628) ⌝ }
+    ensures { λ _. ⌜ (now (numbers .exit) ≡ packedNumbers s) × (now (figures .exit) ≡ packedFigures s) ⌝ }
 {
     put_numbers(s, numbers);
     put_figures(s, figures);
@@ -217,7 +236,9 @@ fn pack(s: Session, numbers: &mut [u64], figures: &mut [f64])
 
 // ---- what is told
 
-fn plain(outcome: u64, figure: f64) -> Reply {
+fn plain(outcome: u64, figure: f64) -> Reply
+    ensures { λ r. ⌜ (replied r ≡ outcome ∷ 0 ∷ 0 ∷ 0 ∷ []) × (r .figure ≡ «figure») ⌝ }
+{
     Reply {
         outcome: outcome,
         refusal: 0,
@@ -227,7 +248,9 @@ fn plain(outcome: u64, figure: f64) -> Reply {
     }
 }
 
-fn reply_of(answer: Answer) -> Reply {
+fn reply_of(answer: Answer) -> Reply
+    ensures { λ r. ⌜ (replied r ≡ wordsOf answer) × (r .figure ≡ figureOf answer) ⌝ }
+{
     match answer {
         Answer::Ask(time) => plain(1, time),
         Answer::Ready(norm, rhs, jacobians) => Reply {
@@ -251,12 +274,23 @@ fn reply_of(answer: Answer) -> Reply {
     }
 }
 
-fn refused(answer: Answer) -> bool {
-    if let Answer::Refused(_) = answer { true } else { false }
+fn refused(answer: Answer) -> bool
+    ensures { λ r. ⌜ r ≡ isRefused answer ⌝ }
+{
+    match answer {
+        Answer::Ask(_) => false,
+        Answer::Ready(_, _, _) => false,
+        Answer::Resting => false,
+        Answer::FirstStep(_) => false,
+        Answer::Filled => false,
+        Answer::Norm(_) => false,
+        Answer::Refused(_) => true,
+    }
 }
 
 fn put_reply(answer: Answer, words: &mut [u64], told: &mut [f64])
     requires { ⌜ (length (now words) ≡ 4) × (length (now told) ≡ 1) ⌝ }
+    ensures { λ _. ⌜ Said answer (now (words .exit)) (now (told .exit)) ⌝ }
 {
     let r = reply_of(answer);
     words[0] = r.outcome;
@@ -270,13 +304,15 @@ fn put_reply(answer: Answer, words: &mut [u64], told: &mut [f64])
 fn give_back(t: Told, numbers: &mut [u64], figures: &mut [f64], words: &mut [u64], told: &mut [f64])
     requires { ⌜ (length (now numbers) ≡ 5) × (length (now figures) ≡ 628) ⌝ }
     requires { ⌜ (length (now words) ≡ 4) × (length (now told) ≡ 1) ⌝ }
+    ensures { λ _. ⌜ Back t (now (numbers .entry)) (now (figures .entry)) (now (numbers .exit)) (now (figures .exit)) (now (words .exit)) (now (told .exit)) ⌝ }
 {
     let answer = t.answer;
     let s = t.session;
     put_reply(answer, words, told);
-    if !refused(answer) {
-        pack(s, numbers, figures);
+    if refused(answer) {
+        return;
     }
+    pack(s, numbers, figures);
 }
 
 // ---- the calls
@@ -297,7 +333,9 @@ pub extern "C" fn vunchrem_open(
     figures: &mut [f64],
     words: &mut [u64],
     told: &mut [f64],
-) -> u32 {
+) -> u32
+    ensures { λ r. ⌜ Crossing ((Lent (now (numbers .entry)) (now (figures .entry))) × (Heard (now (words .entry)) (now (told .entry))) × (length (now (state .entry)) ≡ 16) × (length (now (derivative .entry)) ≡ 16) × (length (now (previous .entry)) ≡ 16)) r ((Said (openCall (schemeOf scheme) n «time» (now (state .entry)) (now (derivative .entry)) «relative» «absolute» (historyOf held) (now (previous .entry)) .answer) (now (words .exit)) (now (told .exit))) × (now (numbers .exit) ≡ packedNumbers (openCall (schemeOf scheme) n «time» (now (state .entry)) (now (derivative .entry)) «relative» «absolute» (historyOf held) (now (previous .entry)) .session)) × (now (figures .exit) ≡ packedFigures (openCall (schemeOf scheme) n «time» (now (state .entry)) (now (derivative .entry)) «relative» «absolute» (historyOf held) (now (previous .entry)) .session))) ((Still (now (numbers .entry)) (now (numbers .exit)) (now (figures .entry)) (now (figures .exit))) × (Still (now (words .entry)) (now (words .exit)) (now (told .entry)) (now (told .exit)))) ⌝ }
+{
     if state.len() != 16 {
         return 1;
     }
@@ -348,7 +386,9 @@ pub extern "C" fn vunchrem_begin(
     out: &mut [f64],
     words: &mut [u64],
     told: &mut [f64],
-) -> u32 {
+) -> u32
+    ensures { λ r. ⌜ Crossing ((Lent (now (numbers .entry)) (now (figures .entry))) × (Heard (now (words .entry)) (now (told .entry))) × (length (now (jacobian .entry)) ≡ 256)) r ((Back (beginCall (unpacked (now (numbers .entry)) (now (figures .entry))) «step» (wishOf wish) (now (jacobian .entry)) (now (out .entry)) .told) (now (numbers .entry)) (now (figures .entry)) (now (numbers .exit)) (now (figures .exit)) (now (words .exit)) (now (told .exit))) × (now (out .exit) ≡ beginCall (unpacked (now (numbers .entry)) (now (figures .entry))) «step» (wishOf wish) (now (jacobian .entry)) (now (out .entry)) .out)) ((Still (now (numbers .entry)) (now (numbers .exit)) (now (figures .entry)) (now (figures .exit))) × (Still (now (words .entry)) (now (words .exit)) (now (told .entry)) (now (told .exit))) × (now (out .exit) ≡ now (out .entry))) ⌝ }
+{
     if numbers.len() != 5 {
         return 1;
     }
@@ -378,7 +418,9 @@ pub extern "C" fn vunchrem_supply(
     out: &mut [f64],
     words: &mut [u64],
     told: &mut [f64],
-) -> u32 {
+) -> u32
+    ensures { λ r. ⌜ Crossing ((Lent (now (numbers .entry)) (now (figures .entry))) × (Heard (now (words .entry)) (now (told .entry))) × (length (now (answer .entry)) ≡ 16)) r ((Back (supplyCall (unpacked (now (numbers .entry)) (now (figures .entry))) (now (answer .entry)) (now (out .entry)) .told) (now (numbers .entry)) (now (figures .entry)) (now (numbers .exit)) (now (figures .exit)) (now (words .exit)) (now (told .exit))) × (now (out .exit) ≡ supplyCall (unpacked (now (numbers .entry)) (now (figures .entry))) (now (answer .entry)) (now (out .entry)) .out)) ((Still (now (numbers .entry)) (now (numbers .exit)) (now (figures .entry)) (now (figures .exit))) × (Still (now (words .entry)) (now (words .exit)) (now (told .entry)) (now (told .exit))) × (now (out .exit) ≡ now (out .entry))) ⌝ }
+{
     if numbers.len() != 5 {
         return 1;
     }
@@ -407,7 +449,9 @@ pub extern "C" fn vunchrem_accept(
     derivative: &[f64],
     words: &mut [u64],
     told: &mut [f64],
-) -> u32 {
+) -> u32
+    ensures { λ r. ⌜ Crossing ((Lent (now (numbers .entry)) (now (figures .entry))) × (Heard (now (words .entry)) (now (told .entry))) × (length (now (derivative .entry)) ≡ 16)) r (Back (acceptCall (unpacked (now (numbers .entry)) (now (figures .entry))) (now (derivative .entry))) (now (numbers .entry)) (now (figures .entry)) (now (numbers .exit)) (now (figures .exit)) (now (words .exit)) (now (told .exit))) ((Still (now (numbers .entry)) (now (numbers .exit)) (now (figures .entry)) (now (figures .exit))) × (Still (now (words .entry)) (now (words .exit)) (now (told .entry)) (now (told .exit)))) ⌝ }
+{
     if numbers.len() != 5 {
         return 1;
     }
@@ -435,7 +479,9 @@ pub extern "C" fn vunchrem_drop(
     figures: &mut [f64],
     words: &mut [u64],
     told: &mut [f64],
-) -> u32 {
+) -> u32
+    ensures { λ r. ⌜ Crossing ((Lent (now (numbers .entry)) (now (figures .entry))) × (Heard (now (words .entry)) (now (told .entry)))) r (Back (dropCall (unpacked (now (numbers .entry)) (now (figures .entry)))) (now (numbers .entry)) (now (figures .entry)) (now (numbers .exit)) (now (figures .exit)) (now (words .exit)) (now (told .exit))) ((Still (now (numbers .entry)) (now (numbers .exit)) (now (figures .entry)) (now (figures .exit))) × (Still (now (words .entry)) (now (words .exit)) (now (told .entry)) (now (told .exit)))) ⌝ }
+{
     if numbers.len() != 5 {
         return 1;
     }
@@ -461,7 +507,9 @@ pub extern "C" fn vunchrem_first_step(
     largest: f64,
     words: &mut [u64],
     told: &mut [f64],
-) -> u32 {
+) -> u32
+    ensures { λ r. ⌜ Crossing ((Lent (now (numbers .entry)) (now (figures .entry))) × (Heard (now (words .entry)) (now (told .entry)))) r (Said (firstStepCall (unpacked (now (numbers .entry)) (now (figures .entry))) «largest» .answer) (now (words .exit)) (now (told .exit))) (Still (now (words .entry)) (now (words .exit)) (now (told .entry)) (now (told .exit))) ⌝ }
+{
     if numbers.len() != 5 {
         return 1;
     }
@@ -491,7 +539,9 @@ pub extern "C" fn vunchrem_exponential(
     out: &mut [f64],
     words: &mut [u64],
     told: &mut [f64],
-) -> u32 {
+) -> u32
+    ensures { λ r. ⌜ Crossing (Heard (now (words .entry)) (now (told .entry))) r ((Said (exponentialCall size (now (m .entry)) (now (out .entry)) .answer) (now (words .exit)) (now (told .exit))) × (now (out .exit) ≡ exponentialCall size (now (m .entry)) (now (out .entry)) .out)) ((Still (now (words .entry)) (now (words .exit)) (now (told .entry)) (now (told .exit))) × (now (out .exit) ≡ now (out .entry))) ⌝ }
+{
     if words.len() != 4 {
         return 1;
     }
@@ -514,7 +564,9 @@ pub extern "C" fn vunchrem_phi_action(
     out: &mut [f64],
     words: &mut [u64],
     told: &mut [f64],
-) -> u32 {
+) -> u32
+    ensures { λ r. ⌜ Crossing (Heard (now (words .entry)) (now (told .entry))) r ((Said (phiCall n order «scale_a» (now (a .entry)) (now (input .entry)) (now (out .entry)) .answer) (now (words .exit)) (now (told .exit))) × (now (out .exit) ≡ phiCall n order «scale_a» (now (a .entry)) (now (input .entry)) (now (out .entry)) .out)) ((Still (now (words .entry)) (now (words .exit)) (now (told .entry)) (now (told .exit))) × (now (out .exit) ≡ now (out .entry))) ⌝ }
+{
     if words.len() != 4 {
         return 1;
     }
@@ -537,7 +589,9 @@ pub extern "C" fn vunchrem_error_norm(
     candidate: &[f64],
     words: &mut [u64],
     told: &mut [f64],
-) -> u32 {
+) -> u32
+    ensures { λ r. ⌜ Crossing ((Heard (now (words .entry)) (now (told .entry))) × (length (now (error .entry)) ≡ 16) × (length (now (state .entry)) ≡ 16) × (length (now (candidate .entry)) ≡ 16)) r (Said (normCall n «relative» «absolute» (now (error .entry)) (now (state .entry)) (now (candidate .entry))) (now (words .exit)) (now (told .exit))) (Still (now (words .entry)) (now (words .exit)) (now (told .entry)) (now (told .exit))) ⌝ }
+{
     if error.len() != 16 {
         return 1;
     }
