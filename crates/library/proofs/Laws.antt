@@ -1,17 +1,17 @@
 -- Stores into a list, as what stands before and after them; a session as slices and back. Assumes nothing.
-use Prim.Native.Nat.{ℕ, zero, suc, _+_, _-_, _≤_, _<_}
-use native.Mathlib.Nat.{zero-add, suc-add, add-suc}
+use Prim.Native.Nat.{ℕ, zero, suc, _+_, _≤_}
+use native.Mathlib.Nat.{zero-add, suc-add}
 use native.Mathlib.Numerals.{add-one}
 use native.Mathlib.Omega.{arith}
 use mathlib.Core.Path.{_≡_, refl, sym, ap, _∙_}
 use mathlib.Core.List.{List, [], _∷_, _++_, append-assoc, append-nil}
 use lib.Ieee.{Float, nan}
-use lib.ListN.{length, getD, set, drop, length-append, length-drop, length-set}
+use lib.ListN.{length, set, drop, length-append, length-drop}
 use Rattle.loops.specs.Loop.{tab, fill, stores, _!_}
 use Rattle.loops.proofs.Loops.{length-tab, fill-none, fill-step, stores-none}
 use Rattle.loops.proofs.Stores.{is-tab, stores-suc}
 use Rattle.session.specs.declared.Session.{Session}
-use Rattle.library.specs.Library.{part, first, heads, packedNumbers, packedFigures, historyNumber, attemptNumber}
+use Rattle.library.specs.Library.{part, first, heads, packedFigures}
 
 -- ---- lists
 
@@ -64,11 +64,11 @@ placed : (x p l : List Float) (b n : ℕ) → length p ≡ b → n ≤ length l 
 unfolding fill first
 placed x p l b n e h = stores-after x p l b n e h ∙ sym (append-assoc p (tab n (λ i. x ! i)) (drop n l))
 
-length-first : (n : ℕ) (x : List Float) → length (first n x) ≡ n
+pub length-first : (n : ℕ) (x : List Float) → length (first n x) ≡ n
 unfolding first
 length-first n x = length-tab n _
 
-length-more : (p x : List Float) (b n : ℕ) → length p ≡ b → length (p ++ first n x) ≡ b + n
+pub length-more : (p x : List Float) (b n : ℕ) → length p ≡ b → length (p ++ first n x) ≡ b + n
 length-more p x b n e = length-append p (first n x) ∙ omega (arith, length-first n x)
 
 left-over : (l : List Float) (n k : ℕ) → length l ≡ n + k → length (drop n l) ≡ k

@@ -1,5 +1,5 @@
 -- A session as numbers and figures, what is told of an answer, and what a call leaves in the slices that it is lent. Definitions only.
-use Prim.Native.Nat.{ℕ, _+_}
+use Prim.Native.Nat.{ℕ, _+_, _≤_, _<_}
 use mathlib.Core.Path.{_≡_}
 use mathlib.Core.Bool.{Bool, true, false, cond}
 use mathlib.Core.List.{List, [], _∷_, _++_}
@@ -147,3 +147,22 @@ Heard words told = (length words ≡ 4) × (length told ≡ 1)
 -- two slices are as they came
 abbrev pub Still : List ℕ → List ℕ → List Float → List Float → Type 0
 Still numbers numbers' figures figures' = (numbers' ≡ numbers) × (figures' ≡ figures)
+
+-- ---- packing and unpacking are each other's inverse (proofs/Inverse.antt)
+
+-- a session of the code's types: its scheme is a byte, and its arrays have their lengths
+pub record Typed (s : Session) : Type 0 where
+  pub scheme : s .scheme < 256
+  pub state : length (s .state) ≡ 16
+  pub derivative : length (s .derivative) ≡ 16
+  pub previous : length (s .previous) ≡ 16
+  pub jacobian : length (s .jacobian) ≡ 256
+  pub answers : length (s .answers) ≡ 320
+
+-- slices that hold a session: their lengths, and numbers that their fields can hold
+pub record Holds (numbers' : List ℕ) (figures' : List Float) : Type 0 where
+  pub numbers : length numbers' ≡ 5
+  pub figures : length figures' ≡ 628
+  pub scheme : getD numbers' 0 0 < 256
+  pub history : getD numbers' 2 0 ≤ 1
+  pub attempt : getD numbers' 3 0 ≤ 2

@@ -17,7 +17,6 @@ ghost use mathlib.Core.List.{[], _∷_};
 ghost use Rattle.library.specs.Library.{part, schemeOf, historyOf, attemptAt, wishOf, historyNumber, attemptNumber, unpacked, packedNumbers, packedFigures, replied, wordsOf, figureOf, isRefused, Said, Back, Crossing, Lent, Heard, Still};
 ghost use Rattle.session.specs.Calls.{openCall, beginCall, supplyCall, acceptCall, dropCall, firstStepCall};
 ghost use Rattle.session.specs.Bare.{exponentialCall, phiCall, normCall};
-
 use session::Answer;
 use session::Attempt;
 use session::History;
@@ -115,7 +114,11 @@ fn scheme_of(x: u64) -> u8
 fn history_of(x: u64) -> History
     ensures { λ r. ⌜ r ≡ historyOf x ⌝ }
 {
-    if x == 0 { History::Missing } else { History::Held }
+    if x == 0 {
+        History::Missing
+    } else {
+        History::Held
+    }
 }
 
 fn attempt_of(x: u64) -> Attempt
@@ -124,13 +127,21 @@ fn attempt_of(x: u64) -> Attempt
     if x == 0 {
         return Attempt::None;
     }
-    if x == 1 { Attempt::Supplied } else { Attempt::Differenced }
+    if x == 1 {
+        Attempt::Supplied
+    } else {
+        Attempt::Differenced
+    }
 }
 
 fn wish_of(x: u64) -> Wish
     ensures { λ r. ⌜ r ≡ wishOf x ⌝ }
 {
-    if x == 0 { Wish::Difference } else { Wish::Given }
+    if x == 0 {
+        Wish::Difference
+    } else {
+        Wish::Given
+    }
 }
 
 fn history_number(h: History) -> u64
@@ -405,7 +416,13 @@ pub extern "C" fn vunchrem_begin(
         return 1;
     }
     let s = unpack(&*numbers, &*figures);
-    give_back(s.begin(step, wish_of(wish), matrix(jacobian, 0), out), numbers, figures, words, told);
+    give_back(
+        s.begin(step, wish_of(wish), matrix(jacobian, 0), out),
+        numbers,
+        figures,
+        words,
+        told,
+    );
     0
 }
 
@@ -437,7 +454,13 @@ pub extern "C" fn vunchrem_supply(
         return 1;
     }
     let s = unpack(&*numbers, &*figures);
-    give_back(s.supply(vector(answer, 0), out), numbers, figures, words, told);
+    give_back(
+        s.supply(vector(answer, 0), out),
+        numbers,
+        figures,
+        words,
+        told,
+    );
     0
 }
 
@@ -468,7 +491,13 @@ pub extern "C" fn vunchrem_accept(
         return 1;
     }
     let s = unpack(&*numbers, &*figures);
-    give_back(s.accept(vector(derivative, 0)), numbers, figures, words, told);
+    give_back(
+        s.accept(vector(derivative, 0)),
+        numbers,
+        figures,
+        words,
+        told,
+    );
     0
 }
 
