@@ -519,6 +519,7 @@ impl Session {
     ///
     /// `f(t, u, du)` writes the derivative at `t` and `u` into `du`, which holds zeros before. On a refusal the attempt is dropped and the
     /// session is as before; a step that finds an attempt under way is refused by [`Refusal::Phase`] and leaves that attempt alone.
+    /// If `f` panics, the attempt stays under way: [`Session::drop_attempt`] ends it.
     ///
     /// ```
     /// use vunchrem::{Refusal, Scheme, Session};

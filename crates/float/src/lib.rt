@@ -20,7 +20,11 @@ pub fn finite(x: f64) -> bool
 pub fn plus_zero(x: f64) -> bool
     ensures { λ r. ⌜ r ≡ plusZero x ⌝ }
 {
-    if x == 0.0 { f64::to_bits(x) == 0 } else { false }
+    if x == 0.0 {
+        f64::to_bits(x) == 0
+    } else {
+        false
+    }
 }
 
 // The absolute value; that of a zero is +0.0.

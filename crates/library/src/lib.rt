@@ -345,7 +345,17 @@ pub extern "C" fn vunchrem_open(
     words: &mut [u64],
     told: &mut [f64],
 ) -> u32
-    ensures { λ r. ⌜ Crossing ((Lent (now (numbers .entry)) (now (figures .entry))) × (Heard (now (words .entry)) (now (told .entry))) × (length (now (state .entry)) ≡ 16) × (length (now (derivative .entry)) ≡ 16) × (length (now (previous .entry)) ≡ 16)) r ((Said (openCall (schemeOf scheme) n «time» (now (state .entry)) (now (derivative .entry)) «relative» «absolute» (historyOf held) (now (previous .entry)) .answer) (now (words .exit)) (now (told .exit))) × (now (numbers .exit) ≡ packedNumbers (openCall (schemeOf scheme) n «time» (now (state .entry)) (now (derivative .entry)) «relative» «absolute» (historyOf held) (now (previous .entry)) .session)) × (now (figures .exit) ≡ packedFigures (openCall (schemeOf scheme) n «time» (now (state .entry)) (now (derivative .entry)) «relative» «absolute» (historyOf held) (now (previous .entry)) .session))) ((Still (now (numbers .entry)) (now (numbers .exit)) (now (figures .entry)) (now (figures .exit))) × (Still (now (words .entry)) (now (words .exit)) (now (told .entry)) (now (told .exit)))) ⌝ }
+    ensures { λ r. ⌜ Crossing
+        ((Lent (now (numbers .entry)) (now (figures .entry)))
+        × (Heard (now (words .entry)) (now (told .entry)))
+        × (length (now (state .entry)) ≡ 16)
+        × (length (now (derivative .entry)) ≡ 16)
+        × (length (now (previous .entry)) ≡ 16)) r
+        ((Said (openCall (schemeOf scheme) n «time» (now (state .entry)) (now (derivative .entry)) «relative» «absolute» (historyOf held) (now (previous .entry)) .answer) (now (words .exit)) (now (told .exit)))
+        × (now (numbers .exit) ≡ packedNumbers (openCall (schemeOf scheme) n «time» (now (state .entry)) (now (derivative .entry)) «relative» «absolute» (historyOf held) (now (previous .entry)) .session))
+        × (now (figures .exit) ≡ packedFigures (openCall (schemeOf scheme) n «time» (now (state .entry)) (now (derivative .entry)) «relative» «absolute» (historyOf held) (now (previous .entry)) .session)))
+        ((Still (now (numbers .entry)) (now (numbers .exit)) (now (figures .entry)) (now (figures .exit)))
+        × (Still (now (words .entry)) (now (words .exit)) (now (told .entry)) (now (told .exit)))) ⌝ }
 {
     if state.len() != 16 {
         return 1;
@@ -398,7 +408,15 @@ pub extern "C" fn vunchrem_begin(
     words: &mut [u64],
     told: &mut [f64],
 ) -> u32
-    ensures { λ r. ⌜ Crossing ((Lent (now (numbers .entry)) (now (figures .entry))) × (Heard (now (words .entry)) (now (told .entry))) × (length (now (jacobian .entry)) ≡ 256)) r ((Back (beginCall (unpacked (now (numbers .entry)) (now (figures .entry))) «step» (wishOf wish) (now (jacobian .entry)) (now (out .entry)) .told) (now (numbers .entry)) (now (figures .entry)) (now (numbers .exit)) (now (figures .exit)) (now (words .exit)) (now (told .exit))) × (now (out .exit) ≡ beginCall (unpacked (now (numbers .entry)) (now (figures .entry))) «step» (wishOf wish) (now (jacobian .entry)) (now (out .entry)) .out)) ((Still (now (numbers .entry)) (now (numbers .exit)) (now (figures .entry)) (now (figures .exit))) × (Still (now (words .entry)) (now (words .exit)) (now (told .entry)) (now (told .exit))) × (now (out .exit) ≡ now (out .entry))) ⌝ }
+    ensures { λ r. ⌜ Crossing
+        ((Lent (now (numbers .entry)) (now (figures .entry)))
+        × (Heard (now (words .entry)) (now (told .entry)))
+        × (length (now (jacobian .entry)) ≡ 256)) r
+        ((Back (beginCall (unpacked (now (numbers .entry)) (now (figures .entry))) «step» (wishOf wish) (now (jacobian .entry)) (now (out .entry)) .told) (now (numbers .entry)) (now (figures .entry)) (now (numbers .exit)) (now (figures .exit)) (now (words .exit)) (now (told .exit)))
+        × (now (out .exit) ≡ beginCall (unpacked (now (numbers .entry)) (now (figures .entry))) «step» (wishOf wish) (now (jacobian .entry)) (now (out .entry)) .out))
+        ((Still (now (numbers .entry)) (now (numbers .exit)) (now (figures .entry)) (now (figures .exit)))
+        × (Still (now (words .entry)) (now (words .exit)) (now (told .entry)) (now (told .exit)))
+        × (now (out .exit) ≡ now (out .entry))) ⌝ }
 {
     if numbers.len() != 5 {
         return 1;
@@ -436,7 +454,15 @@ pub extern "C" fn vunchrem_supply(
     words: &mut [u64],
     told: &mut [f64],
 ) -> u32
-    ensures { λ r. ⌜ Crossing ((Lent (now (numbers .entry)) (now (figures .entry))) × (Heard (now (words .entry)) (now (told .entry))) × (length (now (answer .entry)) ≡ 16)) r ((Back (supplyCall (unpacked (now (numbers .entry)) (now (figures .entry))) (now (answer .entry)) (now (out .entry)) .told) (now (numbers .entry)) (now (figures .entry)) (now (numbers .exit)) (now (figures .exit)) (now (words .exit)) (now (told .exit))) × (now (out .exit) ≡ supplyCall (unpacked (now (numbers .entry)) (now (figures .entry))) (now (answer .entry)) (now (out .entry)) .out)) ((Still (now (numbers .entry)) (now (numbers .exit)) (now (figures .entry)) (now (figures .exit))) × (Still (now (words .entry)) (now (words .exit)) (now (told .entry)) (now (told .exit))) × (now (out .exit) ≡ now (out .entry))) ⌝ }
+    ensures { λ r. ⌜ Crossing
+        ((Lent (now (numbers .entry)) (now (figures .entry)))
+        × (Heard (now (words .entry)) (now (told .entry)))
+        × (length (now (answer .entry)) ≡ 16)) r
+        ((Back (supplyCall (unpacked (now (numbers .entry)) (now (figures .entry))) (now (answer .entry)) (now (out .entry)) .told) (now (numbers .entry)) (now (figures .entry)) (now (numbers .exit)) (now (figures .exit)) (now (words .exit)) (now (told .exit)))
+        × (now (out .exit) ≡ supplyCall (unpacked (now (numbers .entry)) (now (figures .entry))) (now (answer .entry)) (now (out .entry)) .out))
+        ((Still (now (numbers .entry)) (now (numbers .exit)) (now (figures .entry)) (now (figures .exit)))
+        × (Still (now (words .entry)) (now (words .exit)) (now (told .entry)) (now (told .exit)))
+        × (now (out .exit) ≡ now (out .entry))) ⌝ }
 {
     if numbers.len() != 5 {
         return 1;
@@ -473,7 +499,13 @@ pub extern "C" fn vunchrem_accept(
     words: &mut [u64],
     told: &mut [f64],
 ) -> u32
-    ensures { λ r. ⌜ Crossing ((Lent (now (numbers .entry)) (now (figures .entry))) × (Heard (now (words .entry)) (now (told .entry))) × (length (now (derivative .entry)) ≡ 16)) r (Back (acceptCall (unpacked (now (numbers .entry)) (now (figures .entry))) (now (derivative .entry))) (now (numbers .entry)) (now (figures .entry)) (now (numbers .exit)) (now (figures .exit)) (now (words .exit)) (now (told .exit))) ((Still (now (numbers .entry)) (now (numbers .exit)) (now (figures .entry)) (now (figures .exit))) × (Still (now (words .entry)) (now (words .exit)) (now (told .entry)) (now (told .exit)))) ⌝ }
+    ensures { λ r. ⌜ Crossing
+        ((Lent (now (numbers .entry)) (now (figures .entry)))
+        × (Heard (now (words .entry)) (now (told .entry)))
+        × (length (now (derivative .entry)) ≡ 16)) r
+        (Back (acceptCall (unpacked (now (numbers .entry)) (now (figures .entry))) (now (derivative .entry))) (now (numbers .entry)) (now (figures .entry)) (now (numbers .exit)) (now (figures .exit)) (now (words .exit)) (now (told .exit)))
+        ((Still (now (numbers .entry)) (now (numbers .exit)) (now (figures .entry)) (now (figures .exit)))
+        × (Still (now (words .entry)) (now (words .exit)) (now (told .entry)) (now (told .exit)))) ⌝ }
 {
     if numbers.len() != 5 {
         return 1;
@@ -509,7 +541,11 @@ pub extern "C" fn vunchrem_drop(
     words: &mut [u64],
     told: &mut [f64],
 ) -> u32
-    ensures { λ r. ⌜ Crossing ((Lent (now (numbers .entry)) (now (figures .entry))) × (Heard (now (words .entry)) (now (told .entry)))) r (Back (dropCall (unpacked (now (numbers .entry)) (now (figures .entry)))) (now (numbers .entry)) (now (figures .entry)) (now (numbers .exit)) (now (figures .exit)) (now (words .exit)) (now (told .exit))) ((Still (now (numbers .entry)) (now (numbers .exit)) (now (figures .entry)) (now (figures .exit))) × (Still (now (words .entry)) (now (words .exit)) (now (told .entry)) (now (told .exit)))) ⌝ }
+    ensures { λ r. ⌜ Crossing
+        ((Lent (now (numbers .entry)) (now (figures .entry))) × (Heard (now (words .entry)) (now (told .entry)))) r
+        (Back (dropCall (unpacked (now (numbers .entry)) (now (figures .entry)))) (now (numbers .entry)) (now (figures .entry)) (now (numbers .exit)) (now (figures .exit)) (now (words .exit)) (now (told .exit)))
+        ((Still (now (numbers .entry)) (now (numbers .exit)) (now (figures .entry)) (now (figures .exit)))
+        × (Still (now (words .entry)) (now (words .exit)) (now (told .entry)) (now (told .exit)))) ⌝ }
 {
     if numbers.len() != 5 {
         return 1;
@@ -537,7 +573,10 @@ pub extern "C" fn vunchrem_first_step(
     words: &mut [u64],
     told: &mut [f64],
 ) -> u32
-    ensures { λ r. ⌜ Crossing ((Lent (now (numbers .entry)) (now (figures .entry))) × (Heard (now (words .entry)) (now (told .entry)))) r (Said (firstStepCall (unpacked (now (numbers .entry)) (now (figures .entry))) «largest» .answer) (now (words .exit)) (now (told .exit))) (Still (now (words .entry)) (now (words .exit)) (now (told .entry)) (now (told .exit))) ⌝ }
+    ensures { λ r. ⌜ Crossing
+        ((Lent (now (numbers .entry)) (now (figures .entry))) × (Heard (now (words .entry)) (now (told .entry)))) r
+        (Said (firstStepCall (unpacked (now (numbers .entry)) (now (figures .entry))) «largest» .answer) (now (words .exit)) (now (told .exit)))
+        (Still (now (words .entry)) (now (words .exit)) (now (told .entry)) (now (told .exit))) ⌝ }
 {
     if numbers.len() != 5 {
         return 1;
@@ -569,7 +608,12 @@ pub extern "C" fn vunchrem_exponential(
     words: &mut [u64],
     told: &mut [f64],
 ) -> u32
-    ensures { λ r. ⌜ Crossing (Heard (now (words .entry)) (now (told .entry))) r ((Said (exponentialCall size (now (m .entry)) (now (out .entry)) .answer) (now (words .exit)) (now (told .exit))) × (now (out .exit) ≡ exponentialCall size (now (m .entry)) (now (out .entry)) .out)) ((Still (now (words .entry)) (now (words .exit)) (now (told .entry)) (now (told .exit))) × (now (out .exit) ≡ now (out .entry))) ⌝ }
+    ensures { λ r. ⌜ Crossing
+        (Heard (now (words .entry)) (now (told .entry))) r
+        ((Said (exponentialCall size (now (m .entry)) (now (out .entry)) .answer) (now (words .exit)) (now (told .exit)))
+        × (now (out .exit) ≡ exponentialCall size (now (m .entry)) (now (out .entry)) .out))
+        ((Still (now (words .entry)) (now (words .exit)) (now (told .entry)) (now (told .exit)))
+        × (now (out .exit) ≡ now (out .entry))) ⌝ }
 {
     if words.len() != 4 {
         return 1;
@@ -594,7 +638,12 @@ pub extern "C" fn vunchrem_phi_action(
     words: &mut [u64],
     told: &mut [f64],
 ) -> u32
-    ensures { λ r. ⌜ Crossing (Heard (now (words .entry)) (now (told .entry))) r ((Said (phiCall n order «scale_a» (now (a .entry)) (now (input .entry)) (now (out .entry)) .answer) (now (words .exit)) (now (told .exit))) × (now (out .exit) ≡ phiCall n order «scale_a» (now (a .entry)) (now (input .entry)) (now (out .entry)) .out)) ((Still (now (words .entry)) (now (words .exit)) (now (told .entry)) (now (told .exit))) × (now (out .exit) ≡ now (out .entry))) ⌝ }
+    ensures { λ r. ⌜ Crossing
+        (Heard (now (words .entry)) (now (told .entry))) r
+        ((Said (phiCall n order «scale_a» (now (a .entry)) (now (input .entry)) (now (out .entry)) .answer) (now (words .exit)) (now (told .exit)))
+        × (now (out .exit) ≡ phiCall n order «scale_a» (now (a .entry)) (now (input .entry)) (now (out .entry)) .out))
+        ((Still (now (words .entry)) (now (words .exit)) (now (told .entry)) (now (told .exit)))
+        × (now (out .exit) ≡ now (out .entry))) ⌝ }
 {
     if words.len() != 4 {
         return 1;
@@ -619,7 +668,13 @@ pub extern "C" fn vunchrem_error_norm(
     words: &mut [u64],
     told: &mut [f64],
 ) -> u32
-    ensures { λ r. ⌜ Crossing ((Heard (now (words .entry)) (now (told .entry))) × (length (now (error .entry)) ≡ 16) × (length (now (state .entry)) ≡ 16) × (length (now (candidate .entry)) ≡ 16)) r (Said (normCall n «relative» «absolute» (now (error .entry)) (now (state .entry)) (now (candidate .entry))) (now (words .exit)) (now (told .exit))) (Still (now (words .entry)) (now (words .exit)) (now (told .entry)) (now (told .exit))) ⌝ }
+    ensures { λ r. ⌜ Crossing
+        ((Heard (now (words .entry)) (now (told .entry)))
+        × (length (now (error .entry)) ≡ 16)
+        × (length (now (state .entry)) ≡ 16)
+        × (length (now (candidate .entry)) ≡ 16)) r
+        (Said (normCall n «relative» «absolute» (now (error .entry)) (now (state .entry)) (now (candidate .entry))) (now (words .exit)) (now (told .exit)))
+        (Still (now (words .entry)) (now (words .exit)) (now (told .entry)) (now (told .exit))) ⌝ }
 {
     if error.len() != 16 {
         return 1;
