@@ -1,22 +1,48 @@
 -- `session::phi_action` meets its contract. Assumes nothing.
-use native.Mathlib.Omega.{arith}
 use borrow.Author.Needs.{needs}
+use native.Mathlib.Omega.{arith}
 use mathlib.Core.Path.{sym, _∙_}
-use Rattle.session.specs.Bare.{phiCall, otherwise}
-use Rattle.session.proofs.Laws.{phi-sized, otherwise-refused}
+use Rattle.session.specs.Tests.{unless}
+use Rattle.session.specs.Bare.{phiCall}
+use Rattle.session.proofs.Tests.{unless-refused}
+use Rattle.session.proofs.Laws.{phi-sized}
 use Rattle.session.proofs.phi_action.Statement.{statement}
 use Rattle.session.proofs.phi_action.Tie as tie
 
 pub phi-action-spec : {M : Type 1} → statement M
-unfolding phiCall otherwise
+unfolding phiCall unless
 phi-action-spec =
     tie.close
     (tie.spec
     (λ c κs. search needs)
-    (λ c κs. let k = phi-sized _ _ _ _ _ _ (sym (c .before .fault-phi .ensures) ∙ c .if1 .taken) in (k .sized .small, k .inputs))
-    (λ c κs. let k = phi-sized _ _ _ _ _ _ (sym (c .before .before .fault-phi .ensures) ∙ c .before .if1 .taken) in (k .sized, (k .least, k .most)))
-    (λ c κs. let k = phi-sized _ _ _ _ _ _ (sym (c .before .before .before .before .before .before .fault-phi .ensures) ∙ c .before .before .before .before .before .if1 .taken) in omega (arith, k .places, k .sized .small))
+    (λ c κs.
+    let c1 = c .before in
+    let k = phi-sized _ _ _ _ _ _ (sym (c1 .phi-fault .ensures) ∙ c .if1 .taken) in (k .sized .small, k .inputs))
+    (λ c κs.
+    let c1 = c .before in
+    let c2 = c1 .before in
+    let k = phi-sized _ _ _ _ _ _ (sym (c2 .phi-fault .ensures) ∙ c1 .if1 .taken) in (k .sized, (k .least, k .most)))
+    (λ c κs.
+    let c4 = c .before .before .before .before in
+    let c5 = c4 .before in
+    let c6 = c5 .before in
+    let k = phi-sized _ _ _ _ _ _ (sym (c6 .phi-fault .ensures) ∙ c5 .if1 .taken) in omega (arith, k .places, k .sized .small))
     (λ c. search needs)
-    (λ c. let k = phi-sized _ _ _ _ _ _ (sym (c .before .before .before .before .before .before .before .before .before .fault-phi .ensures) ∙ c .before .before .before .before .before .before .before .before .if1 .taken) in rw (← (c .before .before .before .before .before .before .before .before .before .fault-phi .ensures), c .before .before .before .before .before .before .before .before .if1 .taken, ← (c .before .before .before .before .before .before .before .vector .ensures), ← (c .before .before .before .before .before .before .phi-action .ensures), c .before .before .before .before .before .if2 .taken, c .before .before .copy-out .ensures, k .places))
-    (λ c. rw (← (c .before .before .before .before .fault-phi .ensures), c .before .before .before .if1 .taken, ← (c .before .before .vector .ensures), ← (c .before .phi-action .ensures), c .if2 .left))
-    (λ c. rw (← (c .before .fault-phi .ensures)) (otherwise-refused _ _ _ (c .if1 .left))))
+    (λ c.
+    let c2 = c .before .before in
+    let c5 = c2 .before .before .before in
+    let c6 = c5 .before in
+    let c7 = c6 .before in
+    let c8 = c7 .before in
+    let c9 = c8 .before in
+    let k = phi-sized _ _ _ _ _ _ (sym (c9 .phi-fault .ensures) ∙ c8 .if1 .taken) in
+    rw (← (c9 .phi-fault .ensures), c8 .if1 .taken, ← (c7 .vector .ensures), ← (c6 .phi-action .ensures), c5 .if2 .taken, c2 .copy-out .ensures, k .places))
+    (λ c.
+    let c1 = c .before in
+    let c2 = c1 .before in
+    let c3 = c2 .before in
+    let c4 = c3 .before in
+    rw (← (c4 .phi-fault .ensures), c3 .if1 .taken, ← (c2 .vector .ensures), ← (c1 .phi-action .ensures), c .if2 .left))
+    (λ c.
+    let c1 = c .before in
+    rw (← (c1 .phi-fault .ensures)) (unless-refused _ _ _ (c .if1 .left))))
