@@ -73,7 +73,7 @@ good2-parts s e =
 
 -- ---- sessions that are not refused
 
-session-numbered : (wants : Wants) (s : Session) → numbered (sessionTests wants s) ≡ true
+pub session-numbered : (wants : Wants) (s : Session) → numbered (sessionTests wants s) ≡ true
 unfolding numbered sessionTests
 session-numbered wants s = refl
 
@@ -250,7 +250,7 @@ pub phi-sized : (n order : ℕ) (scaleA : Float) (a input : List Float) (lent : 
 unfolding sizeOk
 phi-sized n order scaleA a input lent e =
     let p = both-true (leb 1 n && leb n 16 && leb 1 order && leb order 4) (eqb (length a) (n * n) && eqb (length input) n && eqb lent n)
-        (unfold condition phiTests in passes (phiTests n order scaleA a input lent) (unfold numbered phiTests in refl) e 1) in
+    (unfold condition phiTests in passes (phiTests n order scaleA a input lent) (unfold numbered phiTests in refl) e 1) in
     let q = both-true (leb 1 n && leb n 16 && leb 1 order) (leb order 4) (p .0) in
     let r = both-true (leb 1 n && leb n 16) (leb 1 order) (q .0) in
     let s = size-both n (r .0) in
@@ -268,6 +268,6 @@ pub norm-sized : (n : ℕ) (relative absolute : Float) (error state candidate : 
 unfolding sizeOk
 norm-sized n relative absolute error state candidate e =
     let p = both-true (leb 1 n && leb n 16 && clear n error && clear n state) (clear n candidate)
-        (unfold condition normTests in passes (normTests n relative absolute error state candidate) (unfold numbered normTests in refl) e 1) in
+    (unfold condition normTests in passes (normTests n relative absolute error state candidate) (unfold numbered normTests in refl) e 1) in
     let q = both-true (leb 1 n && leb n 16 && clear n error) (clear n state) (p .0) in
     size-both n (both-true (leb 1 n && leb n 16) (clear n error) (q .0) .0)

@@ -95,16 +95,16 @@ first-of [] = refl
 first-of ((true, k) ∷ tests) = inr (refl, first-of tests)
 first-of ((false, k) ∷ tests) = inl (refl, refl)
 
-first-then : (a b : Tests) (k m : ℕ) → numbered a ≡ true → First a k → First b m → First (a ++ b) (unless k (λ j. j) m)
+first-then : (a b : Tests) (k m : ℕ) → numbered a ≡ true → First a k → (k ≡ 0 → First b m) → First (a ++ b) (unless k (λ j. j) m)
 unfolding First numbered unless
-first-then [] b k m n e f = subst (λ z. First b (unless z (λ j. j) m)) (sym e) f
+first-then [] b k m n e f = subst (λ z. First b (unless z (λ j. j) m)) (sym e) (f e)
 first-then ((h, zero) ∷ a) b k m n f g = absurd (false≢true (both-true (ltb 0 0) (numbered a) n .0))
 first-then ((h, suc j) ∷ a) b k m n (inl (x, e)) g = inl (x, ap (λ z. unless z (λ j. j) m) e)
 first-then ((h, suc j) ∷ a) b k m n (inr (x, f)) g = inr (x, first-then a b k m (both-true (ltb 0 (suc j)) (numbered a) n .1) f g)
 
--- the tests of a call, and then what its result is refused by: `of` reads the number off a result
+-- the tests of a call, and where they hold what its result is refused by: `of` reads the number off a result
 pub call-first : {A : Type 0} (of : A → ℕ) (tests last : Tests) (refuse : ℕ → A) (next : A) → numbered tests ≡ true → ((k : ℕ) → of (refuse k) ≡ k)
-    → First last (of next) → First (tests ++ last) (of (unless (fault tests) refuse next))
+    → (fault tests ≡ 0 → First last (of next)) → First (tests ++ last) (of (unless (fault tests) refuse next))
 call-first of tests last refuse next n r f =
     subst (First (tests ++ last)) (sym (numbers (fault tests))) (first-then tests last (fault tests) (of next) n (first-of tests) f)
   where

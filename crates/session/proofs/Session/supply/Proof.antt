@@ -24,9 +24,11 @@ supply-spec =
     let c1 = c .before in
     let c2 = c1 .before in
     let c3 = c2 .before in
+    let c5 = c3 .before .before in
     let p = supply-passes _ _ _ (sym (c3 .supply-fault .ensures) ∙ c2 .if1 .taken) in (
-    rw (c1 .answered .ensures) (answered-sound _ _ (fault-none (Only Asking) _ (p .0)) (wants-more _ (p .0))),
-    rw (c1 .answered .ensures) (vector-length _ _ _ (p .1))))
+      rw (c1 .answered .ensures) (answered-sound (c5 .args .self) (c5 .args .answer) (fault-none (Only Asking) _ (p .0)) (wants-more _ (p .0))),
+      rw (c1 .answered .ensures) (vector-length (c5 .args .self .n) (c5 .args .answer) _ (p .1)),
+    ))
     (λ c. search needs)
     (λ c.
     let c2 = c .before .before in
