@@ -33,21 +33,21 @@ area n order h k = let l : n + order ≤ 20 = omega arith in mul-le-mul l l
 -- ---- the two outcomes of an exponential
 module _ (n : ℕ) (a : List Float) (c : Float) (x : List Float) (m e d : List Float) (r : Bool) where
   pub phi-ok : (size : ℕ) (v : List Float) → m ≡ mat size (augmentedEntry n a c x) → Filled m size d e r → r ≡ true
-      → v ≡ vec n (λ i. at e size i (size - 1)) → record { ok = true; v = v } ≡ phiInto n a c x size
+      → v ≡ vec n (λ i. at e size i (size - 1)) → record { tally = record { ok = true }; v = v } ≡ phiInto n a c x size
   unfolding phiInto checked
   phi-ok size v p q t w = rw (w, q .output, ← p, ← (q .test), t)
 
   pub phi-bad : (size : ℕ) → m ≡ mat size (augmentedEntry n a c x) → Filled m size d e r → r ≡ false
-      → record { ok = false; v = replicate 16 (ofBits binary64 0) } ≡ phiInto n a c x size
+      → record { tally = record { ok = false }; v = replicate 16 (ofBits binary64 0) } ≡ phiInto n a c x size
   unfolding phiInto checked zeros
   phi-bad size p q t = rw (← p, ← (q .test), t)
 
   pub exp-ok : (v : List Float) → m ≡ mat n (λ i j. c ⊗ at a n i j) → Filled m n d e r → r ≡ true
-      → v ≡ matVec n e x → record { ok = true; v = v } ≡ expAction n a c x
+      → v ≡ matVec n e x → record { tally = record { ok = true }; v = v } ≡ expAction n a c x
   unfolding expAction checked
   exp-ok v p q t w = rw (w, q .output, ← p, ← (q .test), t)
 
   pub exp-bad : m ≡ mat n (λ i j. c ⊗ at a n i j) → Filled m n d e r → r ≡ false
-      → record { ok = false; v = replicate 16 (ofBits binary64 0) } ≡ expAction n a c x
+      → record { tally = record { ok = false }; v = replicate 16 (ofBits binary64 0) } ≡ expAction n a c x
   unfolding expAction checked zeros
   exp-bad p q t = rw (← p, ← (q .test), t)
