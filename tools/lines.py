@@ -13,7 +13,7 @@ import re
 import sys
 
 SMALL = {'add', 'subtract', 'scale', 'axpy', 'added', 'after', 'scaled', 'more', 'combine2', 'combine3', 'a52', 'a54'}
-NONE = {'may-ask', 'asked', 'ended', 'joined', 'nothing', 'clean', 'powi2', 'powi3', 'powi4', 'either', 'float-powi2'}
+NONE = {'may-ask', 'asked', 'ended', 'joined', 'nothing', 'clean', 'powi2', 'powi3', 'powi4', 'powi', 'divisor'}
 PHI = {'phi-term', 'phi-action', 'add-term'}
 LINES = ['begin', 'go-on', 'at-once', 'checked-line', 'over-line', 'over-plain', 'alone', 'reported', 'open-line', 'last-line', 'first-part',
          'first-over', 'next-part', 'next-made', 'part-now', 'summed', 'answered-line', 'handed-on', 'handed-later']
@@ -213,7 +213,12 @@ class Writer:
         return f'(λ c κs. {t})'
 
     def ensures(self, word):
-        """x: what the call x ensures; x<y: the same, with what the call y ensures of its last argument."""
+        """x: what the call x ensures; x<y: the same, with what y ensures of its last argument; x|y,z: with what y and z ensure put in."""
+        if word == 'refl':
+            return word
+        if '|' in word:
+            x, ys = word.split('|')
+            return f'(rw ({", ".join(f"@{y} .ensures" for y in ys.split(","))}) at (@{x} .ensures))'
         if '<' not in word:
             return f'(@{word} .ensures)'
         x, y = word.split('<', 1)
@@ -253,7 +258,7 @@ class Writer:
         if verb == 'first-over':
             return f'first-over _ _ _ _ _ {e(rest[0])} {e(rest[1])}'
         if verb == 'first-over-by':
-            return f'first-over _ _ _ _ _ ({" ".join(rest[1:])}) {rest[0] if rest[0] == "refl" else e(rest[0])}'
+            return f'first-over _ _ _ _ _ ({" ".join(rest[1:])}) {e(rest[0])}'
         if verb == 'part':
             return f'next-part _ _ _ _ {e(rest[0])}'
         if verb == 'part-by':
@@ -276,6 +281,8 @@ class Writer:
         if verb == 'answered':
             some = f'(omega (arith, @{rest[1]} .left, @pre))' if told else f'(@{rest[1]} .left)'
             return f'answered-line _ _ _ _ _ _ _ {e(rest[0])} {some} {e(rest[2])} refl'
+        if verb == 'hand-all':
+            return f'handed-on (@{rest[0]} .ensures _ _ _)'
         if verb == 'hand':
             return f'handed-later _ _ {e(rest[0])} (omega arith) (omega arith)' if told else f'handed-on {e(rest[0])}'
         if verb == 'end':
