@@ -13,7 +13,7 @@ import re
 import sys
 
 SMALL = {'add', 'subtract', 'scale', 'axpy', 'added', 'after', 'scaled', 'more', 'combine2', 'combine3', 'a52', 'a54'}
-NONE = {'may-ask', 'asked', 'ended', 'joined', 'nothing', 'clean', 'powi2', 'powi3', 'powi4', 'powi', 'divisor'}
+NONE = {'may-ask', 'asked', 'ended', 'joined', 'nothing', 'clean', 'unadmitted', 'powi2', 'powi3', 'powi4', 'powi', 'divisor'}
 PHI = {'phi-term', 'phi-action', 'add-term'}
 LINES = ['begin', 'go-on', 'at-once', 'checked-line', 'over-line', 'over-plain', 'alone', 'reported', 'open-line', 'last-line', 'first-part',
          'first-over', 'next-part', 'next-made', 'part-now', 'summed', 'answered-line', 'handed-on', 'handed-later']
@@ -95,7 +95,7 @@ def wrapped(line):
         head, names = line[:-1].split('{')
         cut = names.rfind(', ', 0, WIDTH - len(head))
         return head + '{' + names[:cut] + '}\n' + wrapped(head + '{' + names[cut + 2:] + '}')
-    at = max(line.rfind(' (', 0, WIDTH), line.rfind(', @', 0, WIDTH))
+    at = max(line.rfind(') (', 0, WIDTH), line.rfind(', ', 0, WIDTH)) + 1
     return line if at < 20 else line[:at] + '\n' + wrapped('        ' + line[at + 1:])
 
 
@@ -174,8 +174,10 @@ class Writer:
     def answer(self, need):
         place = self.fn.places[need]
         if need in self.plan['needs']:
-            text = self.plan['needs'][need].replace('GIVEN', self.given(place)).replace('SIZED', self.sized(place)).replace('SMALL', self.small(place))
-            text = text.replace('START', self.start(place))
+            text = self.plan['needs'][need]
+            for word, path in (('GIVEN', self.given), ('SIZED', self.sized), ('SMALL', self.small), ('START', self.start)):
+                if word in text:
+                    text = text.replace(word, path(place))
             lets, t = self.term(place, text, '        ')
             head = 'λ c κs.' if 'requires' in need else 'λ c.'
             return f'({head} {t})' if not lets else f'({head}\n' + '\n'.join(lets) + f'\n        {t})'
@@ -311,7 +313,7 @@ class Writer:
         unfold = f'unfolding {" ".join(plan["unfold"])}\n' if plan['needs'] and plan['unfold'] else ''
         body = '\n'.join(parts) + f'\npub {spec} : {{M : Type 1}} → statement M\n{unfold}{spec} =\n    tie.close\n    (tie.spec\n' + '\n'.join('    ' + a for a in answers) + ')\n'
         if self.helpers:
-            body = '-- the entry, from later places\n' + '\n\n'.join(self.helpers.values()) + '\n\n' + body
+            body = '-- the entry, from later places\n' + '\n\n'.join(self.helpers.values()) + '\n\n' + body.lstrip('\n')
         words = set(re.findall(r'[^\s(),]+', body))
         uses = []
         if 'arith' in words:
@@ -330,6 +332,7 @@ class Writer:
         if laws:
             uses.append('use Rattle.methods.proofs.Requires.{' + ', '.join(laws) + '}')
         head = f'-- `{self.crate}::{self.name}`: {plan["about"]}. Assumes nothing.\n' + '\n'.join(uses)
+        body = body.lstrip('\n')
         head += f'\nuse Rattle.{self.crate}.proofs.{self.name}.Statement.{{statement}}\nuse Rattle.{self.crate}.proofs.{self.name}.Tie as tie\n\n'
         path = f'crates/{self.crate}/proofs/{self.name}'
         os.makedirs(path, exist_ok=True)

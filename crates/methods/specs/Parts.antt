@@ -1,5 +1,5 @@
 -- What the code's parts work out, where it is no line of the Rust: contracts cite it. Definitions only.
-use Prim.Native.Nat.{ℕ, _-_}
+use Prim.Native.Nat.{ℕ}
 use mathlib.Core.Bool.{_&&_}
 use mathlib.Core.List.{List}
 use lib.Ieee.{Float}
@@ -12,11 +12,11 @@ use Rattle.methods.specs.declared.Action.{Action}
 use Rattle.methods.specs.declared.Tally.{Tally}
 use Rattle.methods.specs.Phi.{checked, augmentedEntry}
 
--- the phi action whose augmented matrix has this size
-unfoldable pub phiInto : ℕ → List Float → Float → List Float → ℕ → Action
-phiInto n a scaleA input size =
+-- a column of the exponential of the augmented matrix of this size
+unfoldable pub phiInto : ℕ → List Float → Float → List Float → ℕ → ℕ → Action
+phiInto n a scaleA input size column =
     let m = mat size (augmentedEntry n a scaleA input) in
-    checked (admitted m size) (vec n (λ i. at (exponential m size .entries) size i (size - 1)))
+    checked (admitted m size) (vec n (λ i. at (exponential m size .entries) size i column))
 
 -- the report so far, with a question's tests
 unfoldable pub mayAsk : Tally → List Float → Float → Tally

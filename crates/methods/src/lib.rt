@@ -205,20 +205,20 @@ fn augment(a: &[f64], scale_a: f64, input: Vector, n: usize, out: &mut [f64], si
     }
 }
 
-// The first n entries of the last column.
-fn last_column(e: &[f64], size: usize, n: usize) -> Vector
-    requires { ⌜ (n ≤ 16) × (n ≤ size) × (0 < size) × (size ≤ 20) ⌝ }
+// The first n entries of a column.
+fn column_of(e: &[f64], size: usize, column: usize, n: usize) -> Vector
+    requires { ⌜ (n ≤ 16) × (n ≤ size) × (column < size) × (size ≤ 20) ⌝ }
     requires { ⌜ length (now e) ≡ size * size ⌝ }
-    ensures { λ r. ⌜ r ≡ vec n (λ i. at (now (e .entry)) size i (size - 1)) ⌝ }
+    ensures { λ r. ⌜ r ≡ vec n (λ i. at (now (e .entry)) size i column) ⌝ }
 {
     let mut out = [0.0; PLACES];
     for i in 0..n {
-        out[i] = e[i * size + (size - 1)];
+        out[i] = e[i * size + column];
     }
     out
 }
 
-// The phi action of order size - n, in two matrices that are lent.
+// A column of the exponential of the augmented matrix of this size, in two matrices that are lent.
 fn phi_into(
     a: &[f64],
     scale_a: f64,
@@ -227,18 +227,19 @@ fn phi_into(
     m: &mut [f64],
     e: &mut [f64],
     size: usize,
+    column: usize,
 ) -> Action
     requires { ⌜ Sized n (now a) ⌝ }
-    requires { ⌜ (n < size) × (size ≤ 20) ⌝ }
+    requires { ⌜ (n < size) × (column < size) × (size ≤ 20) ⌝ }
     requires { ⌜ length (now m) ≡ size * size ⌝ }
     requires { ⌜ length (now e) ≡ size * size ⌝ }
-    ensures { λ r. ⌜ r ≡ phiInto n (now (a .entry)) «scale_a» input size ⌝ }
+    ensures { λ r. ⌜ r ≡ phiInto n (now (a .entry)) «scale_a» input size column ⌝ }
 {
     augment(a, scale_a, input, n, m, size);
     if matrix::matrix_exp(m, e, size) {
         Action {
             tally: Tally { ok: true },
-            v: last_column(e, size, n),
+            v: column_of(e, size, column, n),
         }
     } else {
         Action {
@@ -255,26 +256,27 @@ pub fn phi_action(a: &[f64], scale_a: f64, order: usize, input: Vector, n: usize
     requires { ⌜ (1 ≤ order) × (order ≤ 4) ⌝ }
     ensures { λ r. ⌜ r ≡ phiAction n (now (a .entry)) «scale_a» order input ⌝ }
 {
-    let size = n + order;
+    let column = n + order - 1;
+    let size = column + 1;
     let count = size * size;
     if count <= 16 {
         let mut m = [0.0; 16];
         let mut e = [0.0; 16];
-        return phi_into(a, scale_a, input, n, &mut m[..count], &mut e[..count], size);
+        return phi_into(a, scale_a, input, n, &mut m[..count], &mut e[..count], size, column);
     }
     if count <= 64 {
         let mut m = [0.0; 64];
         let mut e = [0.0; 64];
-        return phi_into(a, scale_a, input, n, &mut m[..count], &mut e[..count], size);
+        return phi_into(a, scale_a, input, n, &mut m[..count], &mut e[..count], size, column);
     }
     if count <= 144 {
         let mut m = [0.0; 144];
         let mut e = [0.0; 144];
-        return phi_into(a, scale_a, input, n, &mut m[..count], &mut e[..count], size);
+        return phi_into(a, scale_a, input, n, &mut m[..count], &mut e[..count], size, column);
     }
     let mut m = [0.0; 400];
     let mut e = [0.0; 400];
-    phi_into(a, scale_a, input, n, &mut m[..count], &mut e[..count], size)
+    phi_into(a, scale_a, input, n, &mut m[..count], &mut e[..count], size, column)
 }
 
 pub fn phi_term(

@@ -17,6 +17,7 @@ use Rattle.evaluation.specs.Evaluation.{allFinite}
 use Rattle.matrix.specs.Vector.{matVec}
 use Rattle.matrix.proofs.Vectors.{length-vec}
 use Rattle.methods.specs.declared.Point.{Point}
+use Rattle.methods.specs.declared.Tally.{Tally}
 use Rattle.methods.specs.Vectors.{add, subtract, axpy}
 use Rattle.methods.specs.Pass.{Pass, ask, done, also, _>>=_, Stand, fails, asks, ends, answer, replay}
 use Rattle.methods.specs.Schemes.{exprb32, exprb43}
@@ -62,8 +63,8 @@ length-axpy n x y c h = length-vec n _ h
 
 -- ---- passes that end in vectors of 16 places
 data Long : Pass → Type 0 where
-  ask-l : {ok : Bool} {x : List Float} {t : Float} {k : List Float → Pass} → ((r : List Float) → Long (k r)) → Long (ask ok x t k)
-  done-l : {ok : Bool} {x e : List Float} → length x ≡ 16 → length e ≡ 16 → Long (done ok x e)
+  ask-l : {tally : Tally} {x : List Float} {t : Float} {k : List Float → Pass} → ((r : List Float) → Long (k r)) → Long (ask tally x t k)
+  done-l : {tally : Tally} {x e : List Float} → length x ≡ 16 → length e ≡ 16 → Long (done tally x e)
 
 exprb32-l : (n : ℕ) (a u : List Float) (t h : Float) (f : List Float) → n ≤ 16 → Long (exprb32 n a u t h f)
 unfolding exprb32 _>>=_ also
@@ -85,11 +86,11 @@ or-fails false p h = unfold Fine in tt
 
 replay-fine : (n : ℕ) {p : Pass} → Long p → (c j : ℕ) (r : List Float) → Fine (replay n p c j r)
 unfolding replay
-replay-fine n (ask-l {ok} {x} {t} k) zero j r = or-fails (ok && allFinite x && finite t) (asks x t) (λ _. unfold Fine in tt)
-replay-fine n (ask-l {ok} {x} {t} k) (suc c) j r = or-fails (ok && allFinite x && finite t) _ (λ _. replay-fine n (k (answer n r j)) c (suc j) r)
-replay-fine n (done-l {ok} {x} {e} X E) c j r = or-fails (ok && allFinite x && allFinite e) (ends x e) (λ h.
-    let p = both-true (ok && allFinite x) (allFinite e) h in
-    unfold Fine in (record { places = X; numbers = both-true ok (allFinite x) (p .0) .1 }, record { places = E; numbers = p .1 }))
+replay-fine n (ask-l {tally} {x} {t} k) zero j r = or-fails (tally .ok && allFinite x && finite t) (asks x t) (λ _. unfold Fine in tt)
+replay-fine n (ask-l {tally} {x} {t} k) (suc c) j r = or-fails (tally .ok && allFinite x && finite t) _ (λ _. replay-fine n (k (answer n r j)) c (suc j) r)
+replay-fine n (done-l {tally} {x} {e} X E) c j r = or-fails (tally .ok && allFinite x && allFinite e) (ends x e) (λ h.
+    let p = both-true (tally .ok && allFinite x) (allFinite e) h in
+    unfold Fine in (record { places = X; numbers = both-true (tally .ok) (allFinite x) (p .0) .1 }, record { places = E; numbers = p .1 }))
 
 -- the same of a step
 Finite : Progress → Type 0

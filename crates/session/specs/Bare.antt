@@ -49,7 +49,7 @@ unfoldable pub phiCall : ℕ → ℕ → Float → List Float → List Float →
 phiCall n order scaleA a input out =
     let action = phiAction n a scaleA order (vec n (λ i. input ! i)) in
     otherwise (faultPhi n order scaleA a input (length out)) out
-    (cond (action .ok) (bare Filled (tab n (λ i. action .v ! i))) (bare (Refused 6) out))
+    (cond (action .tally .ok) (bare Filled (tab n (λ i. action .v ! i))) (bare (Refused 6) out))
 
 -- a dimension, two tolerances, and three vectors
 unfoldable pub faultNorm : ℕ → Float → Float → List Float → List Float → List Float → ℕ

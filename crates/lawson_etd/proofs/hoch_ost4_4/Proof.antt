@@ -89,7 +89,6 @@ hoch-ost4-4-spec =
         let at-if1 = at-phi-term .before .before in
         let at-shared-slice-known2 = at-if1 .before .before .before .before in
         let entry = at-shared-slice-known2 .before .before in
-        (start-joined c .pre .0, (omega (arith, at-if1 .if1 .left, entry .pre .1 .0),
-        ((entry .pre .1 .1 .1 .0, entry .pre .1 .1 .1 .1, at-phi-term .phi-term .ensures),
-        (at-phi-term2 .phi-term2 .ensures, at-phi-term3 .phi-term3 .ensures)))))
+        (start-joined c .pre .0, (omega (arith, at-if1 .if1 .left, entry .pre .1 .0), ((entry .pre .1 .1 .1 .0, entry .pre .1 .1 .1 .1,
+        at-phi-term .phi-term .ensures), (at-phi-term2 .phi-term2 .ensures, at-phi-term3 .phi-term3 .ensures)))))
     returns-2)

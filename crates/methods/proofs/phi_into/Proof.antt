@@ -17,7 +17,10 @@ phi-into-spec =
     let c2 = c .before .before in
     let c5 = c2 .before .before .before in
     let c10 = c5 .before .before .before .before .before in
-    phi-ok _ _ _ _ _ _ _ _ _ _ (c10 .augment .ensures) (c5 .matrix-exp .ensures) (c2 .if1 .taken) (c .last-column .ensures))
+    phi-ok _ _ _ _ _ _ _ _ _ _ _ (c10 .augment .ensures) (c5 .matrix-exp .ensures) (c2 .if1 .taken) (c .column-of .ensures))
     (λ c. search needs)
     (λ c. search needs)
-    (λ c. phi-bad _ _ _ _ _ _ _ _ _ (c .before .before .before .before .before .before .before .before .augment .ensures) (c .before .before .before .matrix-exp .ensures) (c .if1 .left)))
+    (λ c.
+    let c3 = c .before .before .before in
+    let c8 = c3 .before .before .before .before .before in
+    phi-bad _ _ _ _ _ _ _ _ _ _ (c8 .augment .ensures) (c3 .matrix-exp .ensures) (c .if1 .left)))

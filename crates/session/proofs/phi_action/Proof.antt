@@ -15,8 +15,25 @@ phi-action-spec =
     (λ c κs. search needs)
     (λ c κs. let k = phi-sized _ _ _ _ _ _ (sym (c .before .fault-phi .ensures) ∙ c .if1 .taken) in (k .sized .small, k .inputs))
     (λ c κs. let k = phi-sized _ _ _ _ _ _ (sym (c .before .before .fault-phi .ensures) ∙ c .before .if1 .taken) in (k .sized, (k .least, k .most)))
-    (λ c κs. let k = phi-sized _ _ _ _ _ _ (sym (c .before .before .before .before .before .before .fault-phi .ensures) ∙ c .before .before .before .before .before .if1 .taken) in omega (arith, k .places, k .sized .small))
+    (λ c κs.
+    let at-if2 = c .before .before in
+    let at-if1 = at-if2 .before .before .before .before in
+    let k = phi-sized _ _ _ _ _ _ (sym (at-if1 .before .fault-phi .ensures) ∙ at-if1 .if1 .taken) in
+    omega (arith, k .places, k .sized .small))
     (λ c. search needs)
-    (λ c. let k = phi-sized _ _ _ _ _ _ (sym (c .before .before .before .before .before .before .before .before .before .fault-phi .ensures) ∙ c .before .before .before .before .before .before .before .before .if1 .taken) in rw (← (c .before .before .before .before .before .before .before .before .before .fault-phi .ensures), c .before .before .before .before .before .before .before .before .if1 .taken, ← (c .before .before .before .before .before .before .before .vector .ensures), ← (c .before .before .before .before .before .before .phi-action .ensures), c .before .before .before .before .before .if2 .taken, c .before .before .copy-out .ensures, k .places))
-    (λ c. rw (← (c .before .before .before .before .fault-phi .ensures), c .before .before .before .if1 .taken, ← (c .before .before .vector .ensures), ← (c .before .phi-action .ensures), c .if2 .left))
+    (λ c.
+    let at-copy-out = c .before .before in
+    let at-if2 = at-copy-out .before .before .before in
+    let at-phi-action = at-if2 .before .before in
+    let at-vector = at-phi-action .before in
+    let at-if1 = at-vector .before in
+    let at-fault-phi = at-if1 .before in
+    let k = phi-sized _ _ _ _ _ _ (sym (at-fault-phi .fault-phi .ensures) ∙ at-if1 .if1 .taken) in
+    rw (← (at-fault-phi .fault-phi .ensures), at-if1 .if1 .taken, ← (at-vector .vector .ensures), ← (at-phi-action .phi-action .ensures),
+    at-if2 .if2 .taken, at-copy-out .copy-out .ensures, k .places))
+    (λ c.
+    let at-phi-action = c .before .before in
+    let at-vector = at-phi-action .before in
+    let at-if1 = at-vector .before in
+    rw (← (at-if1 .before .fault-phi .ensures), at-if1 .if1 .taken, ← (at-vector .vector .ensures), ← (at-phi-action .phi-action .ensures), c .if2 .left))
     (λ c. rw (← (c .before .fault-phi .ensures)) (otherwise-refused _ _ _ (c .if1 .left))))
