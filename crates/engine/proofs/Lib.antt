@@ -1,2 +1,4 @@
 pub mod Small
 pub mod Norm
+pub mod Order
+pub mod FirstStep

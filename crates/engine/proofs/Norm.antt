@@ -25,7 +25,30 @@ plus nan = false
 plus (inf s) = not s
 plus (fin s m e) = not s
 
--- ---- roundings with a plus sign
+-- ---- roundings
+-- a rounded number is no NaN
+odd-any : (d : ℕ) (t : Bool) (q k l : ℕ) → isNan (odd d t q k l) ≡ false
+unfolding odd isNan
+odd-any d t zero k l = refl
+odd-any d t (suc q) k l = refl
+
+units-any : (t : Bool) (q k : ℕ) → isNan (units binary64 t q k) ≡ false
+unfolding units isNan
+units-any t q k = go (ltb (q * 2 ^ k) (2 ^ (low binary64 + suc (emax binary64))))
+  where
+    go : (b : Bool) → isNan (cond b (odd (suc (prec binary64)) t q k (low binary64)) (inf t)) ≡ false
+    go true = odd-any (suc (prec binary64)) t q k (low binary64)
+    go false = refl
+
+pub round-number : (t : Bool) (a c : ℕ) → isNan (round binary64 t a c) ≡ false
+unfolding round
+round-number t a c =
+    let n = a * 2 ^ low binary64 in
+    let k = size (n / c) - prec binary64 in
+    let u = c * 2 ^ k in
+    units-any t (nearest (n / u) (compare (n % u * 2) u)) k
+
+-- with a plus sign
 odd-plus : (d q k l : ℕ) → T (plus (odd d false q k l))
 unfolding odd plus
 odd-plus d zero k l = tt
@@ -110,11 +133,6 @@ sum-plus zero f h = zero-plus
 sum-plus (suc zero) f h = h 0 (omega arith)
 sum-plus (suc (suc k)) f h = add-plus (sumOf (suc k) f) (f (suc k)) (sum-plus (suc k) f (λ i l. h i (omega arith))) (h (suc k) (omega arith))
 
-odd-number : (d q k l : ℕ) → isNan (odd d false q k l) ≡ false
-unfolding odd isNan
-odd-number d zero k l = refl
-odd-number d (suc q) k l = refl
-
 root-number : (x : Float) → T (plus x) → isNan (sqrt x) ≡ false
 unfolding root plus nearestRoot isNan
 root-number nan h = absurd h
@@ -123,7 +141,7 @@ root-number (inf false) h = refl
 root-number (fin true zero e) h = refl
 root-number (fin true (suc m) e) h = absurd h
 root-number (fin false zero e) h = refl
-root-number (fin false (suc m) e) h = odd-number _ _ _ _
+root-number (fin false (suc m) e) h = odd-any _ _ _ _ _
 
 -- ---- the tolerance of an entry is above zero
 -- a product of two that are finite and have no minus sign
@@ -192,25 +210,6 @@ div-number (fin s m e) (inf t) h k = refl
 div-number (fin s m e) (fin true n d) h k = absurd k
 div-number (fin s m e) (fin false zero d) h k = absurd k
 div-number (fin s m e) (fin false (suc n) d) h k = rw (ne-eqb (suc n) 0 (λ h. omega (arith, h))) (round-number (unlike s false) (m * up e * down d) (suc n * up d * down e))
-  where
-    odd-any : (d : ℕ) (t : Bool) (q k l : ℕ) → isNan (odd d t q k l) ≡ false
-    odd-any d t zero k l = unfold odd in refl
-    odd-any d t (suc q) k l = unfold odd in refl
-
-    units-any : (t : Bool) (q k : ℕ) → isNan (units binary64 t q k) ≡ false
-    units-any t q k = unfold units in go (ltb (q * 2 ^ k) (2 ^ (low binary64 + suc (emax binary64))))
-      where
-        go : (b : Bool) → isNan (cond b (odd (suc (prec binary64)) t q k (low binary64)) (inf t)) ≡ false
-        go true = odd-any (suc (prec binary64)) t q k (low binary64)
-        go false = refl
-
-    round-number : (t : Bool) (a c : ℕ) → isNan (round binary64 t a c) ≡ false
-    round-number t a c =
-        unfold round in
-        let n = a * 2 ^ low binary64 in
-        let k = size (n / c) - prec binary64 in
-        let u = c * 2 ^ k in
-        units-any t (nearest (n / u) (compare (n % u * 2) u)) k
 
 -- ---- an entry's ratio, and the norm
 larger-plus : (x y : Float) → T (plus x) → T (plus y) → T (plus (larger x y))

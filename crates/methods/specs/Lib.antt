@@ -8,3 +8,4 @@ pub mod Parts
 pub mod Pass
 pub mod Schemes
 pub mod Step
+pub mod Shape

@@ -2,14 +2,15 @@
 use Prim.Native.Nat.{ℕ, zero, suc, _+_, _-_, _*_, _/_, _^_, _%_, _≤_, compare, compare·zero-suc}
 use native.Mathlib.Nat.{zero-mul, mul-zero, zero-add, add-zero, sub-zero, zero-div, zero-mod}
 use native.Mathlib.Omega.{arith}
-use mathlib.Core.Path.{_≡_, refl, sym, ap, _∙_, subst}
+use mathlib.Core.Path.{_≡_, refl, sym, ap, _∙_, subst, subst₂}
+use mathlib.Core.Logic.{inl, inr}
 use mathlib.Core.Bool.{Bool, true, false, cond, not, _&&_}
 use lib.Dec.{T, ltb, eqb, nltb→le, leb·zero, leb·suc-zero, leb·suc-suc}
 use lib.IntN.{ℤ, pos}
 use lib.Ieee.{Float, nan, inf, fin, binary64, prec, emax, low, up, down, unlike, neg, add, sub, mul, div, sum, round, units, odd, size, span, climb, nearest, ofBits, ofFields}
 use lib.Count.{trailingZeros}
 use Rattle.float.specs.Arith.{zero+, abs, finite, _⊕_, _⊖_, _⊗_, _⊘_}
-use Rattle.mirror.specs.Mirror.{flip}
+use Rattle.mirror.specs.Mirror.{flip, Zero, Agrees}
 
 pub data Mirror (s : Bool) : Float → Float → Type 0 where
   m-nan : Mirror s nan nan
@@ -186,6 +187,19 @@ unfolding flip
 m-flip s nan = m-nan
 m-flip s (inf t) = m-inf t
 m-flip s (fin t m e) = m-fin t m e
+
+-- the same relation, as demand 3 says it
+pub agrees : {s : Bool} {x y : Float} → Mirror s x y → Agrees s x y
+unfolding Agrees flip Zero
+agrees m-nan = inl refl
+agrees (m-inf t) = inl refl
+agrees (m-fin t m e) = inl refl
+agrees (m-zero t u) = inr ((t, refl), (u, refl))
+
+pub mirrors : {s : Bool} {x y : Float} → Agrees s x y → Mirror s x y
+unfolding Agrees Zero
+mirrors {s} {x} (inl e) = subst (λ (y : Float). Mirror s x y) (sym e) (m-flip s x)
+mirrors {s} (inr ((t, e), (u, d))) = subst₂ (λ (x y : Float). Mirror s x y) (sym e) (sym d) (m-zero _ _)
 
 pub data Turn : Float → Float → Type 0 where
   same : (x : Float) → Turn x x

@@ -1,5 +1,6 @@
 pub mod Floats
 pub mod Vectors
+pub mod Rows
 pub mod Matrices
 pub mod Passes
 pub mod Steps
@@ -7,4 +8,3 @@ pub mod Places
 pub mod Sessions
 pub mod Calls
 pub mod Runs
-pub mod Rows

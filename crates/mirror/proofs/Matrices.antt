@@ -14,8 +14,10 @@ use Rattle.float.specs.Arith.{_⊗_, zero+, one, epsilon, limit, finite, abs, m
 use Rattle.matrix.specs.Matrix.{at, identity, matMul, divAll, addAll, maxAbs, rowSum, norm, admitted, squarings, power, scaled, nextTerm, small, Series, series, taylor, squared, exponential}
 use Rattle.methods.specs.declared.Action.{Action}
 use Rattle.methods.specs.Phi.{checked, over, augmentedEntry, augmented, phiAction, phiTerm, expAction}
-use Rattle.mirror.proofs.Floats.{Mirror, m-refl, add-m, mul-m, mul-same, div-m, abs-m, zero-m, unlike-self, unlike-false}
-use Rattle.mirror.proofs.Vectors.{Vecs, Mats, m-sign, cell, vec-m, tab-m, mat-m, iter-m, sum-eq, most-eq, every-eq, inner, zeros-m, scale-m, matVec-m}
+use Rattle.mirror.proofs.Floats.{Mirror, m-refl, add-m, mul-m, mul-same, div-m, abs-m, zero-m, agrees, unlike-self, unlike-false}
+use Rattle.mirror.specs.Rows.{SameRowSums}
+use Rattle.mirror.proofs.Rows.{same-row-sums}
+use Rattle.mirror.proofs.Vectors.{Vecs, Mats, m-sign, cell, vec-m, tab-m, mat-m, iter-m, most-eq, every-eq, inner, zeros-m, scale-m, matVec-m}
 
 one-or-zero : (σ : ℕ → Bool) (i j : ℕ) → Mirror (unlike (σ i) (σ j)) (cond (eqb i j) one zero+) (cond (eqb i j) one zero+)
 one-or-zero σ i j = go (eqb i j) (eqb→eq i j)
@@ -50,17 +52,18 @@ module _ {n : ℕ} {σ : ℕ → Bool} where
   addAll-m {a} {a'} A B = tab-m n σ (length a) (length a') _ _ (A .size) (λ p h. add-m (A .place p) (B .place p))
 
   -- ---- what does not see the signs
-  pub rowSum-m : {a a' : List Float} → Mats n σ a a' → (i : ℕ) → rowSum a n i ≡ rowSum a' n i
-  unfolding rowSum
-  rowSum-m A i = sum-eq n _ _ (λ j h. abs-m (cell A i j h))
+  -- this is where demand 3 rests on the absolute values: norms, and so what is refused and how often is squared, come from the row sums alone
+  rowSum-m : {a a' : List Float} → Mats n σ a a' → (i : ℕ) → i < n → rowSum a n i ≡ rowSum a' n i
+  unfolding rowSum SameRowSums
+  rowSum-m {a} {a'} A i h = same-row-sums n σ a a' (λ p l. agrees (A .place p)) i h
 
   norm-m : {a a' : List Float} → Mats n σ a a' → norm a n ≡ norm a' n
   unfolding norm
-  norm-m A = most-eq n zero+ _ _ (λ i h. rowSum-m A i)
+  norm-m A = most-eq n zero+ _ _ (rowSum-m A)
 
   admitted-m : {a a' : List Float} → Mats n σ a a' → admitted a n ≡ admitted a' n
   unfolding admitted
-  admitted-m A = every-eq n _ _ (λ i h. ap (λ (x : Float). finite x && le x limit) (rowSum-m A i))
+  admitted-m A = every-eq n _ _ (λ i h. ap (λ (x : Float). finite x && le x limit) (rowSum-m A i h))
 
   maxAbs-m : {a a' : List Float} (x : Float) → Mats n σ a a' → maxAbs x a ≡ maxAbs x a'
   unfolding maxAbs

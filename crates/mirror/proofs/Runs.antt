@@ -20,7 +20,7 @@ use Rattle.session.specs.declared.Wish.the-variants.{Given, Difference}
 use Rattle.session.specs.Session.{usedHistory, usedJacobian}
 use Rattle.session.specs.Calls.{Outcome, nothing, opened}
 use Rattle.mirror.specs.Mirror.{Opening, Call, perform, opening, run, flip, flipped, inHistory, inWish, inJacobian, inAnswers, flippedOpening, FlippedCall, begins, supplies, accepts, drops, firstSteps, FlippedCalls, no-call, and-call, isRefused, wishesDifference, Undifferenced, Zero, Agrees, Alike, Mirrored, SameOutcome, SameOutcomes, no-outcome, and-outcome, MirroredRuns}
-use Rattle.mirror.proofs.Floats.{Mirror, m-nan, m-inf, m-fin, m-zero, m-flip, false-unlike}
+use Rattle.mirror.proofs.Floats.{Mirror, m-nan, m-inf, m-fin, m-zero, m-flip, agrees, false-unlike}
 use Rattle.mirror.proofs.Vectors.{past-end}
 use Rattle.mirror.proofs.Places.{At, at-nan, Placed, in-use, blank-m}
 use Rattle.mirror.proofs.Sessions.{live, Sessions, void, alive}
@@ -94,13 +94,6 @@ opening-m turned o =
     bare-m (open-m (o .scheme) (o .time) (o .relative) (o .absolute) (o .history) (flipped-m _ _ (o .state)) (flipped-m _ _ (o .derivative)) (in-use (history-places (o .history) (o .n)) (flipped-m _ _ (o .previous))))
 
 -- ---- what the relations say
-agrees : {s : Bool} {x y : Float} → Mirror s x y → Agrees s x y
-unfolding Agrees flip Zero
-agrees m-nan = inl refl
-agrees (m-inf t) = inl refl
-agrees (m-fin t m e) = inl refl
-agrees (m-zero t u) = inr ((t, refl), (u, refl))
-
 alike : {used turned : ℕ → Bool} {x y : List Float} → Placed used turned x y → Alike used turned x y
 alike {used} {turned} {x} {y} P = record {
   size = P .size;

@@ -1,15 +1,16 @@
 -- What follows from tests that passed, and what is told of an attempt. Assumes nothing.
 use Rattle.methods.specs.Step.{questions, Progress, refused, progress as reached, progressKind}
-use Rattle.session.specs.Session.{wanted, sizeOk, runPlaces, attemptPlaces, good1, historyOk, good2, inPhase, good7, fault, usedJacobian, Sound, clear}
+use Rattle.session.specs.Tests.{Tests, fault, condition, numbered, unless}
+use Rattle.session.specs.Session.{Run, joined, trialOf, fresh, wanted, wantedBy, phaseWith, phaseAt, phaseOf, phaseNumber, admits, sizeOk, runPlaces, attemptPlaces, good1, historyOk, good2, good7, sessionTests, usedJacobian, Sound, clear}
 use Rattle.methods.specs.Vectors.{Sized}
-use Rattle.session.specs.Bare.{Bare, bare, otherwise, instead, faultExponential, faultPhi, faultNorm}
-use Rattle.session.specs.Calls.{faultVector, faultBegin, Outcome, outcome, tell, unless, except, begun, answered, attemptOf, shown, arrived, settled, answerOf}
+use Rattle.session.specs.Bare.{exponentialTests, phiTests, normTests}
+use Rattle.session.specs.Calls.{Outcome, outcome, tell, refuse, refuseLent, opened, nothing, openCall, begun, answered, attemptOf, vectorTests, attemptTests, beginTests, supplyTests, acceptTests, firstStepTests, shown, arrived, settled, answerOf}
 use Prim.Native.Nat.{ℕ, zero, suc, _+_, _*_, _≤_, _<_}
 use mathlib.Core.Path.{_≡_, refl, sym, subst}
-use mathlib.Core.Bool.{Bool, true, false, cond, not, _&&_}
-use mathlib.Core.List.{List, [], _∷_}
+use mathlib.Core.Bool.{Bool, true, false, cond, not, _&&_, false≢true}
+use mathlib.Core.List.{List, [], _∷_, _++_}
 use native.Mathlib.Omega.{arith}
-use lib.Dec.{T, leb, eqb}
+use lib.Dec.{leb, ltb, eqb}
 use lib.Ieee.{Float}
 use lib.ListN.{length, getD}
 use borrow.Author.Tests.{leb-true, ltb-true, eqb-true}
@@ -21,24 +22,15 @@ use Rattle.methods.specs.declared.Kind.the-variants.{Question, Done}
 use Rattle.session.specs.declared.Session.{Session}
 use Rattle.session.specs.declared.Told.{Told}
 use Rattle.session.specs.declared.Answer.{Answer}
-use Rattle.session.specs.declared.Answer.the-variants.{Refused}
+use Rattle.session.specs.declared.Answer.the-variants.{Resting, Refused}
 use Rattle.session.specs.declared.Attempt.{Attempt}
 use Rattle.session.specs.declared.Attempt.the-variants.{None, Supplied, Differenced}
 use Rattle.session.specs.declared.Phase.{Phase}
-use Rattle.session.specs.declared.Phase.the-variants.{Asking}
+use Rattle.session.specs.declared.Phase.the-variants.{Rest, Asking, Waiting}
+use Rattle.session.specs.declared.Wants.{Wants}
+use Rattle.session.specs.declared.Wants.the-variants.{Any, Only}
 use Rattle.session.specs.declared.Wish.{Wish}
-
-true≢false : {A : Type 0} → true ≡ false → A
-true≢false e = absurd (subst T e tt)
-
-pub both-true : (a b : Bool) → (a && b) ≡ true → (a ≡ true) × (b ≡ true)
-both-true true b e = (refl, e)
-both-true false b e = true≢false (sym e)
-
--- a chain of tests that ends with 0
-pub passed : (b : Bool) (x k : ℕ) → cond b x (suc k) ≡ 0 → (b ≡ true) × (x ≡ 0)
-passed true x k e = (refl, e)
-passed false x k e = absurd (omega (arith, e))
+use Rattle.session.proofs.Tests.{both-true, passes, both-pass, fault-append, unless-refused}
 
 -- a list whose entries are all at most 4
 allSmall : List ℕ → Bool
@@ -66,78 +58,122 @@ size-both n e = let p : (leb 1 n ≡ true) × (leb n 16 ≡ true) = both-true (l
 
 good-size : (b p : Bool) → cond b p false ≡ true → b ≡ true
 good-size true p e = refl
-good-size false p e = true≢false (sym e)
+good-size false p e = absurd (false≢true e)
 
 pub good1-size : (s : Session) → good1 s ≡ true → (1 ≤ s .n) × (s .n ≤ 16)
 unfolding good1 sizeOk
 good1-size s e = size-both (s .n) (good-size (sizeOk (s .n)) (runPlaces s && attemptPlaces s) e)
 
-good2-parts : (s : Session) → good2 s ≡ true → (s .scheme ≤ 15) × (s .count ≤ wanted (s .scheme) (s .n) (s .attempt))
+good2-parts : (s : Session) → good2 s ≡ true → (s .scheme ≤ 15) × (s .count ≤ wantedBy s)
 unfolding good2
 good2-parts s e =
-    let a = both-true (leb (s .scheme) 15 && historyOk (s .history) (s .scheme)) (leb (s .count) (wanted (s .scheme) (s .n) (s .attempt))) e in
+    let a = both-true (leb (s .scheme) 15 && historyOk (s .history) (s .scheme)) (leb (s .count) (wantedBy s)) e in
     let b = both-true (leb (s .scheme) 15) (historyOk (s .history) (s .scheme)) (a .0) in
-    (leb-true (s .scheme) 15 (b .0), leb-true (s .count) (wanted (s .scheme) (s .n) (s .attempt)) (a .1))
+    (leb-true (s .scheme) 15 (b .0), leb-true (s .count) (wantedBy s) (a .1))
 
--- a session that is not refused
-pub fault-none : (p : Phase) (s : Session) → fault p s ≡ 0 → (Sound s) × (good7 p s ≡ true)
-unfolding fault
-fault-none p s e =
-    let a = passed (good1 s) _ 0 e in
-    let b = passed (good2 s) _ 1 (a .1) in
-    let c = passed (good7 p s) _ 6 (b .1) in
-    let n = good1-size s (a .0) in
-    let m = good2-parts s (b .0) in
-    (record { some = n .0; small = n .1; scheme = m .0; enough = m .1 }, c .0)
+-- ---- sessions that are not refused
 
--- the phase in which an answer is wanted
-asking-less : (a : Attempt) (count most : ℕ) → inPhase Asking a count most ≡ true → count < most
-unfolding inPhase
-asking-less None count most e = true≢false (sym e)
-asking-less Supplied count most e = ltb-true count most e
-asking-less Differenced count most e = ltb-true count most e
+pub session-numbered : (wants : Wants) (s : Session) → numbered (sessionTests wants s) ≡ true
+unfolding numbered sessionTests
+session-numbered wants s = refl
 
-pub wants : (s : Session) → fault Asking s ≡ 0 → s .count < wanted (s .scheme) (s .n) (s .attempt)
-unfolding good7
-wants s e = asking-less (s .attempt) (s .count) _ (fault-none Asking s e .1)
+-- the row of a number
+pub session-row : (wants : Wants) (s : Session) → fault (sessionTests wants s) ≡ 0 → (k : ℕ) → condition k (sessionTests wants s) ≡ true
+session-row wants s e = passes (sessionTests wants s) (session-numbered wants s) e
 
--- what is handed in, where it is not refused
-pub begin-length : (n : ℕ) (h : Float) (a : Attempt) (j : List Float) (len : ℕ) → faultBegin n h a j len ≡ 0 → len ≡ n
-unfolding faultBegin
-begin-length n h a j len e =
-    let p = passed (clear (usedJacobian a n) j && eqb len n) _ 0 e in
-    eqb-true len n (both-true (clear (usedJacobian a n) j) (eqb len n) (p .0) .1)
+pub fault-none : (wants : Wants) (s : Session) → fault (sessionTests wants s) ≡ 0 → Sound s
+fault-none wants s e =
+    let n = good1-size s (unfold condition sessionTests in session-row wants s e 1) in
+    let m = good2-parts s (unfold condition sessionTests in session-row wants s e 2) in
+    record { some = n .0; small = n .1; scheme = m .0; enough = m .1 }
 
-pub vector-length : (n : ℕ) (x : List Float) (len : ℕ) → faultVector n x (eqb len n) ≡ 0 → len ≡ n
-unfolding faultVector
-vector-length n x len e =
-    let p = passed (clear n x && eqb len n) _ 0 e in
-    eqb-true len n (both-true (clear n x) (eqb len n) (p .0) .1)
+pub in-phase : (phase : Phase) (s : Session) → fault (sessionTests (Only phase) s) ≡ 0 → phaseNumber phase ≡ phaseNumber (phaseOf s)
+in-phase phase s e =
+    eqb-true (phaseNumber phase) (phaseNumber (phaseOf s)) (unfold condition sessionTests good7 admits in session-row (Only phase) s e 7)
 
--- ---- refused, or not
-pub unless-refused : (k : ℕ) (s : Session) (r : Told) → (k ≡ 0 → ⊥) → tell (Refused k) s ≡ unless k s r
+asking-more : (a : Attempt) (b : Bool) → 1 ≡ phaseNumber (phaseAt a b) → b ≡ true
+unfolding phaseAt phaseWith phaseNumber
+asking-more None b e = absurd (omega (arith, e))
+asking-more Supplied true e = refl
+asking-more Supplied false e = absurd (omega (arith, e))
+asking-more Differenced true e = refl
+asking-more Differenced false e = absurd (omega (arith, e))
+
+-- a session that asks wants an answer more
+pub wants-more : (s : Session) → fault (sessionTests (Only Asking) s) ≡ 0 → s .count < wantedBy s
+wants-more s e = ltb-true (s .count) (wantedBy s) (asking-more (s .attempt) _ (unfold phaseOf phaseNumber in in-phase Asking s e))
+
+pub few-answers : (s : Session) → fault (sessionTests (Only Asking) s) ≡ 0 → s .count < 20
+few-answers s e = omega (arith, wants-more s e, wanted-small (s .scheme) (s .n) (s .attempt) (fault-none (Only Asking) s e .small))
+
+-- what is handed in is tested where the session passes
+pub session-then : (wants : Wants) (s : Session) (handed : Tests) {k m : ℕ} → k ≡ fault (sessionTests wants s) → k ≡ 0 → m ≡ fault handed
+    → m ≡ fault (sessionTests wants s ++ handed)
 unfolding unless
-unless-refused zero s r h = absurd (h refl)
-unless-refused (suc k) s r h = refl
+session-then wants s handed e z f = rw (fault-append (sessionTests wants s) handed (session-numbered wants s), ← e, z) f
 
-pub unless-none : (k : ℕ) (s : Session) (r : Told) → k ≡ 0 → r ≡ unless k s r
-unfolding unless
-unless-none k s r h = rw h
+pub session-fails : (wants : Wants) (s : Session) (handed : Tests) {k : ℕ} → k ≡ fault (sessionTests wants s) → (k ≡ 0 → ⊥)
+    → k ≡ fault (sessionTests wants s ++ handed)
+session-fails wants s handed {k} e h =
+    rw (fault-append (sessionTests wants s) handed (session-numbered wants s), ← e) (unless-refused k (λ j. j) (fault handed) h)
 
-pub except-refused : (k : ℕ) (s : Session) (o : List Float) (r : Outcome) → (k ≡ 0 → ⊥) → outcome (tell (Refused k) s) o ≡ except k s o r
-unfolding except
-except-refused zero s o r h = absurd (h refl)
-except-refused (suc k) s o r h = refl
+-- ---- calls that are not refused
 
-pub except-none : (k : ℕ) (s : Session) (o : List Float) (r : Outcome) → k ≡ 0 → r ≡ except k s o r
-unfolding except
-except-none k s o r h = rw h
+pub begin-passes : (s : Session) (h : Float) (a : Attempt) (j : List Float) (lent : ℕ) → fault (beginTests s h a j lent) ≡ 0
+    → (fault (sessionTests (Only Rest) s) ≡ 0) × (fault (attemptTests (s .n) h a j lent) ≡ 0)
+unfolding beginTests
+begin-passes s h a j lent e = both-pass (sessionTests (Only Rest) s) _ (session-numbered (Only Rest) s) e
+
+pub supply-passes : (s : Session) (x : List Float) (lent : ℕ) → fault (supplyTests s x lent) ≡ 0
+    → (fault (sessionTests (Only Asking) s) ≡ 0) × (fault (vectorTests (s .n) x (eqb lent (s .n))) ≡ 0)
+unfolding supplyTests
+supply-passes s x lent e = both-pass (sessionTests (Only Asking) s) _ (session-numbered (Only Asking) s) e
+
+pub accept-passes : (s : Session) (x : List Float) → fault (acceptTests s x) ≡ 0
+    → (fault (sessionTests (Only Waiting) s) ≡ 0) × (fault (vectorTests (s .n) x true) ≡ 0)
+unfolding acceptTests
+accept-passes s x e = both-pass (sessionTests (Only Waiting) s) _ (session-numbered (Only Waiting) s) e
+
+pub first-step-passes : (s : Session) (largest : Float) → fault (firstStepTests s largest) ≡ 0 → fault (sessionTests Any s) ≡ 0
+unfolding firstStepTests
+first-step-passes s largest e = both-pass (sessionTests Any s) _ (session-numbered Any s) e .0
+
+pub attempt-row : (n : ℕ) (h : Float) (a : Attempt) (j : List Float) (lent : ℕ) → fault (attemptTests n h a j lent) ≡ 0
+    → (k : ℕ) → condition k (attemptTests n h a j lent) ≡ true
+attempt-row n h a j lent e = passes (attemptTests n h a j lent) (unfold numbered attemptTests in refl) e
+
+pub vector-row : (n : ℕ) (x : List Float) (lent : Bool) → fault (vectorTests n x lent) ≡ 0 → (k : ℕ) → condition k (vectorTests n x lent) ≡ true
+vector-row n x lent e = passes (vectorTests n x lent) (unfold numbered vectorTests in refl) e
+
+pub begin-length : (n : ℕ) (h : Float) (a : Attempt) (j : List Float) (lent : ℕ) → fault (attemptTests n h a j lent) ≡ 0 → lent ≡ n
+begin-length n h a j lent e =
+    eqb-true lent n (both-true (clear (usedJacobian a n) j) (eqb lent n) (unfold condition attemptTests in attempt-row n h a j lent e 1) .1)
+
+pub vector-length : (n : ℕ) (x : List Float) (lent : ℕ) → fault (vectorTests n x (eqb lent n)) ≡ 0 → lent ≡ n
+vector-length n x lent e =
+    eqb-true lent n (both-true (clear n x) (eqb lent n) (unfold condition vectorTests in vector-row n x (eqb lent n) e 1) .1)
+
+-- open works from what a refused one returns
+module _ (r : Run) (none : Session) (e : none ≡ nothing) where
+  from-nothing : joined r (trialOf none) ≡ opened r
+  unfolding nothing opened
+  from-nothing = rw e
+
+  pub open-ok : {k : ℕ} (t : Told) → k ≡ fault (sessionTests Any (joined r (trialOf none))) → k ≡ 0 → t ≡ tell Resting (joined r (trialOf none)) → t ≡ openCall r
+  unfolding openCall unless
+  open-ok t f z g = let h = rw from-nothing at f in rw (← h, z, g, from-nothing)
+
+  pub open-refused : {k : ℕ} (t : Told) → k ≡ fault (sessionTests Any (joined r (trialOf none))) → (k ≡ 0 → ⊥) → t ≡ refuse none k → t ≡ openCall r
+  unfolding openCall
+  open-refused {k} t f z g =
+      let h = rw from-nothing at f in
+      rw (← h, g, e) (unless-refused k (refuse nothing) (tell Resting (opened r)) z)
 
 pub begun-sound : (s : Session) (h : Float) (w : Wish) (j : List Float) → Sound s → Sound (begun s h (attemptOf w) j)
-unfolding begun
+unfolding begun fresh
 begun-sound s h w j r = record { some = r .some; small = r .small; scheme = r .scheme; enough = omega arith }
 
-pub answered-sound : (s : Session) (x : List Float) → Sound s → s .count < wanted (s .scheme) (s .n) (s .attempt) → Sound (answered s x)
+pub answered-sound : (s : Session) (x : List Float) → Sound s → s .count < wantedBy s → Sound (answered s x)
 unfolding answered
 answered-sound s x r h = record { some = r .some; small = r .small; scheme = r .scheme; enough = omega arith }
 
@@ -149,9 +185,9 @@ show-kind old s o (Question t) x e g = refl
 show-kind old s o Done x e g = refl
 
 module _ (old s : Session) (o o' : List Float) (w : StepResult) (p : Progress) (v : reached w ≡ p) where
-  pub show-bad : w .ok ≡ false → outcome (tell (Refused 6) old) o ≡ shown old s o p
+  pub show-bad : (r : Told) → r ≡ refuse old 6 → w .ok ≡ false → outcome r o ≡ shown old s o p
   unfolding shown reached
-  show-bad e = rw (← v, e)
+  show-bad r f e = rw (← v, e, f)
 
   pub show-ok : (a : Answer) → w .ok ≡ true → length o ≡ s .n → o' ≡ tab (length o) (λ i. w .state ! i) → a ≡ answerOf s (w .kind) (w .state) (w .error)
       → outcome (tell a s) o' ≡ shown old s o p
@@ -159,13 +195,13 @@ module _ (old s : Session) (o o' : List Float) (w : StepResult) (p : Progress) (
   show-ok a e l c h = rw (← v, e, h, c, l) (show-kind old s o (w .kind) (w .state) (w .error) (w .nonlinear))
 
 module _ (s : Session) (f : List Float) (w : StepResult) (p : Progress) (v : reached w ≡ p) where
-  pub settle-bad : w .ok ≡ false → tell (Refused 6) s ≡ settled s f p
+  pub settle-bad : (r : Told) → r ≡ refuse s 6 → w .ok ≡ false → r ≡ settled s f p
   unfolding settled reached
-  settle-bad e = rw (← v, e)
+  settle-bad r h e = rw (← v, e, h)
 
-  pub settle-ask : (t : Float) → w .ok ≡ true → w .kind ≡ Question t → tell (Refused 6) s ≡ settled s f p
+  pub settle-ask : (t : Float) (r : Told) → r ≡ refuse s 6 → w .ok ≡ true → w .kind ≡ Question t → r ≡ settled s f p
   unfolding settled reached progressKind
-  settle-ask t e k = rw (← v, e, k)
+  settle-ask t r h e k = rw (← v, e, k, h)
 
   pub settle-done : (r : Told) → w .ok ≡ true → w .kind ≡ Done → r ≡ arrived s (w .state) f (w .nonlinear) → r ≡ settled s f p
   unfolding settled reached progressKind
@@ -196,20 +232,9 @@ size20 n e = leb-true n 20 (both-true (leb 1 n) (leb n 20) e .1)
 pub order-size : (n : ℕ) (b c : Bool) → (leb 1 n && leb n 16 && b && c) ≡ true → n ≤ 16
 order-size n b c e = size-both n (both-true (leb 1 n && leb n 16) b (both-true (leb 1 n && leb n 16 && b) c e .0) .0) .1
 
-pub otherwise-refused : (k : ℕ) (o : List Float) (r : Bare) → (k ≡ 0 → ⊥) → bare (Refused k) o ≡ otherwise k o r
-unfolding otherwise
-otherwise-refused zero o r h = absurd (h refl)
-otherwise-refused (suc k) o r h = refl
-
-pub instead-refused : (k : ℕ) (a : Answer) → (k ≡ 0 → ⊥) → Refused k ≡ instead k a
-unfolding instead
-instead-refused zero a h = absurd (h refl)
-instead-refused (suc k) a h = refl
-
-pub exponential-sized : (size : ℕ) (m : List Float) (lent : ℕ) → faultExponential size m lent ≡ 0 → (size ≤ 20) × ((length m ≡ size * size) × (lent ≡ size * size))
-unfolding faultExponential
+pub exponential-sized : (size : ℕ) (m : List Float) (lent : ℕ) → fault (exponentialTests size m lent) ≡ 0 → (size ≤ 20) × ((length m ≡ size * size) × (lent ≡ size * size))
 exponential-sized size m lent e =
-    let p = both-true (leb 1 size && leb size 20) (eqb (length m) (size * size) && eqb lent (size * size)) (passed _ _ 0 e .0) in
+    let p = both-true (leb 1 size && leb size 20) (eqb (length m) (size * size) && eqb lent (size * size)) (unfold condition exponentialTests in passes (exponentialTests size m lent) (unfold numbered exponentialTests in refl) e 1) in
     let q = both-true (eqb (length m) (size * size)) (eqb lent (size * size)) (p .1) in
     (size20 size (p .0), (eqb-true (length m) (size * size) (q .0), eqb-true lent (size * size) (q .1)))
 
@@ -221,10 +246,11 @@ pub record Acted (n order : ℕ) (a input : List Float) (lent : ℕ) : Type 0 wh
   pub inputs : length input ≡ n
   pub places : lent ≡ n
 
-pub phi-sized : (n order : ℕ) (scaleA : Float) (a input : List Float) (lent : ℕ) → faultPhi n order scaleA a input lent ≡ 0 → Acted n order a input lent
-unfolding faultPhi sizeOk
+pub phi-sized : (n order : ℕ) (scaleA : Float) (a input : List Float) (lent : ℕ) → fault (phiTests n order scaleA a input lent) ≡ 0 → Acted n order a input lent
+unfolding sizeOk
 phi-sized n order scaleA a input lent e =
-    let p = both-true (leb 1 n && leb n 16 && leb 1 order && leb order 4) (eqb (length a) (n * n) && eqb (length input) n && eqb lent n) (passed _ _ 0 e .0) in
+    let p = both-true (leb 1 n && leb n 16 && leb 1 order && leb order 4) (eqb (length a) (n * n) && eqb (length input) n && eqb lent n)
+    (unfold condition phiTests in passes (phiTests n order scaleA a input lent) (unfold numbered phiTests in refl) e 1) in
     let q = both-true (leb 1 n && leb n 16 && leb 1 order) (leb order 4) (p .0) in
     let r = both-true (leb 1 n && leb n 16) (leb 1 order) (q .0) in
     let s = size-both n (r .0) in
@@ -238,9 +264,10 @@ phi-sized n order scaleA a input lent e =
       places = eqb-true lent n (t .1);
     }
 
-pub norm-sized : (n : ℕ) (relative absolute : Float) (error state candidate : List Float) → faultNorm n relative absolute error state candidate ≡ 0 → (1 ≤ n) × (n ≤ 16)
-unfolding faultNorm sizeOk
+pub norm-sized : (n : ℕ) (relative absolute : Float) (error state candidate : List Float) → fault (normTests n relative absolute error state candidate) ≡ 0 → (1 ≤ n) × (n ≤ 16)
+unfolding sizeOk
 norm-sized n relative absolute error state candidate e =
-    let p = both-true (leb 1 n && leb n 16 && clear n error && clear n state) (clear n candidate) (passed _ _ 0 e .0) in
+    let p = both-true (leb 1 n && leb n 16 && clear n error && clear n state) (clear n candidate)
+    (unfold condition normTests in passes (normTests n relative absolute error state candidate) (unfold numbered normTests in refl) e 1) in
     let q = both-true (leb 1 n && leb n 16 && clear n error) (clear n state) (p .0) in
     size-both n (both-true (leb 1 n && leb n 16) (clear n error) (q .0) .0)

@@ -1,10 +1,10 @@
 -- A session, what a call refuses it for, and how far its attempt has come. Definitions only.
 use Prim.Native.Nat.{ℕ, _+_, _-_, _*_, _/_, _%_, _≤_}
 use mathlib.Core.Bool.{Bool, true, false, cond, not, _&&_, _||_}
-use mathlib.Core.List.{List}
+use mathlib.Core.List.{List, [], _∷_}
 use lib.Dec.{ltb, leb, eqb}
 use lib.Ieee.{Float, lt, eq}
-use lib.ListN.{length, take}
+use lib.ListN.{length, replicate, take}
 use Rattle.loops.specs.Loop.{every, mat, _!_}
 use Rattle.float.specs.Arith.{zero+, finite, plusZero}
 use Rattle.evaluation.specs.Evaluation.{allFinite}
@@ -17,7 +17,75 @@ use Rattle.session.specs.declared.History.the-variants.{Missing, Held}
 use Rattle.session.specs.declared.Attempt.{Attempt}
 use Rattle.session.specs.declared.Attempt.the-variants.{None, Supplied, Differenced}
 use Rattle.session.specs.declared.Phase.{Phase}
-use Rattle.session.specs.declared.Phase.the-variants.{Any, Rest, Asking, Waiting}
+use Rattle.session.specs.declared.Phase.the-variants.{Rest, Asking, Waiting}
+use Rattle.session.specs.declared.Wants.{Wants}
+use Rattle.session.specs.declared.Wants.the-variants.{Any, Only}
+use Rattle.session.specs.Tests.{Tests}
+
+-- ---- a session is a run and its attempt
+
+-- the run: what is handed to open, and what accept moves on
+pub record Run : Type 0 where
+  pub scheme : ℕ
+  pub n : ℕ
+  pub time : Float
+  pub state : List Float
+  pub derivative : List Float
+  pub relative : Float
+  pub absolute : Float
+  pub history : History
+  pub previous : List Float
+
+-- the attempt, if there is one, with its answers so far
+pub record Trial : Type 0 where
+  pub attempt : Attempt
+  pub step : Float
+  pub jacobian : List Float
+  pub count : ℕ
+  pub answers : List Float
+
+-- both as one flat record
+abbrev pub joined : Run → Trial → Session
+joined r t = record {
+  scheme = r .scheme;
+  n = r .n;
+  time = r .time;
+  state = r .state;
+  derivative = r .derivative;
+  relative = r .relative;
+  absolute = r .absolute;
+  history = r .history;
+  previous = r .previous;
+  attempt = t .attempt;
+  step = t .step;
+  jacobian = t .jacobian;
+  count = t .count;
+  answers = t .answers;
+}
+
+abbrev pub runOf : Session → Run
+runOf s = record {
+  scheme = s .scheme;
+  n = s .n;
+  time = s .time;
+  state = s .state;
+  derivative = s .derivative;
+  relative = s .relative;
+  absolute = s .absolute;
+  history = s .history;
+  previous = s .previous;
+}
+
+abbrev pub trialOf : Session → Trial
+trialOf s = record { attempt = s .attempt; step = s .step; jacobian = s .jacobian; count = s .count; answers = s .answers }
+
+-- an attempt that has no answer yet
+unfoldable pub fresh : Attempt → Float → List Float → Trial
+fresh attempt step jacobian = record { attempt = attempt; step = step; jacobian = jacobian; count = 0; answers = replicate 320 zero+ }
+
+-- no attempt
+unfoldable pub idle : Trial
+idle = fresh None zero+ (replicate 256 zero+)
 
 -- ---- places in use
 
@@ -25,9 +93,13 @@ use Rattle.session.specs.declared.Phase.the-variants.{Any, Rest, Asking,
 unfoldable pub clear : ℕ → List Float → Bool
 clear used x = every (length x) (λ p. ltb p used || plusZero (x ! p))
 
--- the places that hold no entry of an answer are +0.0: answer k begins at 16 k
+-- place p holds an entry of an answer: answer k begins at 16 k
+abbrev pub inAnswers : ℕ → ℕ → ℕ → Bool
+inAnswers count n p = ltb (p / 16) count && ltb (p % 16) n
+
+-- the places that hold no entry of an answer are +0.0
 unfoldable pub clearAnswers : ℕ → ℕ → List Float → Bool
-clearAnswers count n x = every (length x) (λ p. (ltb (p / 16) count && ltb (p % 16) n) || plusZero (x ! p))
+clearAnswers count n x = every (length x) (λ p. inAnswers count n p || plusZero (x ! p))
 
 -- how many places of the history are in use
 unfoldable pub usedHistory : History → ℕ → ℕ
@@ -51,6 +123,34 @@ unfoldable pub wanted : ℕ → ℕ → Attempt → ℕ
 wanted scheme n None = 0
 wanted scheme n Supplied = questions scheme
 wanted scheme n Differenced = n + questions scheme
+
+abbrev pub wantedBy : Session → ℕ
+wantedBy s = wanted (s .scheme) (s .n) (s .attempt)
+
+-- ---- the phase
+
+-- with an attempt: asking while an answer is wanted, then waiting for accept
+unfoldable pub phaseWith : Bool → Phase
+phaseWith more = cond more Asking Waiting
+
+-- without one: at rest
+unfoldable pub phaseAt : Attempt → Bool → Phase
+phaseAt None more = Rest
+phaseAt Supplied more = phaseWith more
+phaseAt Differenced more = phaseWith more
+
+unfoldable pub phaseOf : Session → Phase
+phaseOf s = phaseAt (s .attempt) (ltb (s .count) (wantedBy s))
+
+unfoldable pub phaseNumber : Phase → ℕ
+phaseNumber Rest = 0
+phaseNumber Asking = 1
+phaseNumber Waiting = 2
+
+-- a call wants the session in one phase, or takes it in any
+unfoldable pub admits : Wants → Phase → Bool
+admits Any phase = true
+admits (Only one) phase = eqb (phaseNumber one) (phaseNumber phase)
 
 -- ---- the conditions of document 01's table, on the session: each holds where its number is not given
 
@@ -77,24 +177,11 @@ historyOk Held scheme = eqb scheme 13
 
 -- 2: the scheme, its history, and no more answers than are asked for
 unfoldable pub good2 : Session → Bool
-good2 s = leb (s .scheme) 15 && historyOk (s .history) (s .scheme) && leb (s .count) (wanted (s .scheme) (s .n) (s .attempt))
-
--- whether a session with this attempt and so many answers of `most` is in the phase
-unfoldable pub inPhase : Phase → Attempt → ℕ → ℕ → Bool
-inPhase Any attempt count most = true
-inPhase Rest None count most = true
-inPhase Rest Supplied count most = false
-inPhase Rest Differenced count most = false
-inPhase Asking None count most = false
-inPhase Asking Supplied count most = ltb count most
-inPhase Asking Differenced count most = ltb count most
-inPhase Waiting None count most = false
-inPhase Waiting Supplied count most = eqb count most
-inPhase Waiting Differenced count most = eqb count most
+good2 s = leb (s .scheme) 15 && historyOk (s .history) (s .scheme) && leb (s .count) (wantedBy s)
 
 -- 7: the phase that the call wants
-unfoldable pub good7 : Phase → Session → Bool
-good7 phase s = inPhase phase (s .attempt) (s .count) (wanted (s .scheme) (s .n) (s .attempt))
+unfoldable pub good7 : Wants → Session → Bool
+good7 wants s = admits wants (phaseOf s)
 
 -- a tolerance is finite and positive
 unfoldable pub positive : Float → Bool
@@ -118,26 +205,23 @@ good5 Differenced step = stepOk step
 unfoldable pub good3 : Session → Bool
 good3 s = finite (s .time) && allFinite (s .state) && allFinite (s .derivative) && allFinite (s .previous) && allFinite (s .jacobian) && allFinite (s .answers)
 
--- a condition, the number that is given where it fails, and the tests after it; 0 is no refusal
-abbrev pub test : Bool → ℕ → ℕ → ℕ
-test condition number next = cond condition next number
-
--- the number by which a session is refused, in the order 1, 2, 7, 4, 5, 3
-unfoldable pub fault : Phase → Session → ℕ
-fault phase s =
-    test (good1 s) 1
-    (test (good2 s) 2
-    (test (good7 phase s) 7
-    (test (good4 s) 4
-    (test (good5 (s .attempt) (s .step)) 5
-    (test (good3 s) 3 0)))))
+-- the tests of a session, in the order 1, 2, 7, 4, 5, 3
+unfoldable pub sessionTests : Wants → Session → Tests
+sessionTests wants s =
+    (good1 s, 1)
+    ∷ (good2 s, 2)
+    ∷ (good7 wants s, 7)
+    ∷ (good4 s, 4)
+    ∷ (good5 (s .attempt) (s .step), 5)
+    ∷ (good3 s, 3)
+    ∷ []
 
 -- what every session that is not refused has
 pub record Sound (s : Session) : Type 0 where
   pub some : 1 ≤ s .n
   pub small : s .n ≤ 16
   pub scheme : s .scheme ≤ 15
-  pub enough : s .count ≤ wanted (s .scheme) (s .n) (s .attempt)
+  pub enough : s .count ≤ wantedBy s
 
 -- ---- the attempt, as far as its answers go
 

@@ -7,9 +7,14 @@ ghost use Rattle.loops.specs.Loop.{mat};
 ghost use Rattle.methods.specs.Step.{refused, performStep};
 ghost use Rattle.methods.specs.Step.{progress as reached};
 ghost use Rattle.engine.specs.Engine.{jacobianEntry};
-ghost use Rattle.session.specs.Session.{usedHistory, usedJacobian, stepClear, wanted, runPlaces, attemptPlaces, good1, historyOk, good2, inPhase, positive, stepOk, good5, good3, fault, Sound, isHeld, pointOf, stepped, question, differencing, progress};
-ghost use Rattle.session.specs.Calls.{outcome, opened, nothing, begun, answered, moved, readyOf, answerOf, shown, arrived, settled, faultVector, attemptOf, faultBegin, openCall, beginCall, supplyCall, acceptCall, dropCall, firstStepCall};
-ghost use Rattle.session.specs.Bare.{bare, faultExponential, exponentialCall, faultPhi, phiCall, faultNorm, normCall};
+ghost use Rattle.session.specs.Tests.{fault};
+ghost use Rattle.session.specs.Session.{usedHistory, usedJacobian, stepClear, wanted, wantedBy, phaseWith, phaseOf, phaseNumber, admits, runPlaces, attemptPlaces};
+ghost use Rattle.session.specs.Session.{good1, historyOk, good2, good7, positive, stepOk, good4, good5, good3, sessionTests, Sound};
+ghost use Rattle.session.specs.Session.{isHeld, pointOf, stepped, question, differencing, progress};
+ghost use Rattle.session.specs.Calls.{outcome, tell, refuse, opened, nothing, begun, rested, answered, moved, readyOf, answerOf, shown, arrived, settled};
+ghost use Rattle.session.specs.Calls.{vectorTests, attemptOf, attemptTests, largestTests, beginTests, supplyTests, acceptTests, firstStepTests};
+ghost use Rattle.session.specs.Calls.{openCall, beginCall, supplyCall, acceptCall, dropCall, firstStepCall};
+ghost use Rattle.session.specs.Bare.{bare, exponentialTests, exponentialCall, phiTests, phiCall, normTests, normCall};
 
 mod places;
 
@@ -68,12 +73,17 @@ pub struct Told {
     pub session: Session,
 }
 
-// In which phase a call wants the session: any, resting, asking, or ready and waiting for accept.
+// The phase of a session: at rest, asking, or with all its answers and waiting for accept.
 enum Phase {
-    Any,
     Rest,
     Asking,
     Waiting,
+}
+
+// In which phase a call wants the session.
+enum Wants {
+    Any,
+    Only(Phase),
 }
 
 // ---- what a session is refused for
@@ -174,27 +184,49 @@ fn good2(s: Session) -> bool
     (s.scheme <= 15) & history_ok(history, s.scheme) & (s.count <= wanted(s.scheme, s.n, attempt))
 }
 
-fn in_phase(p: Phase, a: Attempt, count: usize, most: usize) -> bool
-    ensures { λ r. ⌜ r ≡ inPhase p a count most ⌝ }
+fn phase_number(p: Phase) -> u8
+    ensures { λ r. ⌜ r ≡ phaseNumber p ⌝ }
 {
     match p {
-        Phase::Any => true,
-        Phase::Rest => match a {
-            Attempt::None => true,
-            Attempt::Supplied => false,
-            Attempt::Differenced => false,
-        },
-        Phase::Asking => match a {
-            Attempt::None => false,
-            Attempt::Supplied => count < most,
-            Attempt::Differenced => count < most,
-        },
-        Phase::Waiting => match a {
-            Attempt::None => false,
-            Attempt::Supplied => count == most,
-            Attempt::Differenced => count == most,
-        },
+        Phase::Rest => 0,
+        Phase::Asking => 1,
+        Phase::Waiting => 2,
     }
+}
+
+fn phase_with(more: bool) -> Phase
+    ensures { λ r. ⌜ r ≡ phaseWith more ⌝ }
+{
+    if more { Phase::Asking } else { Phase::Waiting }
+}
+
+fn phase_of(s: Session) -> Phase
+    requires { ⌜ s .n ≤ 16 ⌝ }
+    ensures { λ r. ⌜ r ≡ phaseOf s ⌝ }
+{
+    let attempt = s.attempt;
+    let more = s.count < wanted(s.scheme, s.n, attempt);
+    match attempt {
+        Attempt::None => Phase::Rest,
+        Attempt::Supplied => phase_with(more),
+        Attempt::Differenced => phase_with(more),
+    }
+}
+
+fn admits(wants: Wants, phase: Phase) -> bool
+    ensures { λ r. ⌜ r ≡ admits wants phase ⌝ }
+{
+    match wants {
+        Wants::Any => true,
+        Wants::Only(one) => phase_number(one) == phase_number(phase),
+    }
+}
+
+fn good7(wants: Wants, s: Session) -> bool
+    requires { ⌜ s .n ≤ 16 ⌝ }
+    ensures { λ r. ⌜ r ≡ good7 wants s ⌝ }
+{
+    admits(wants, phase_of(s))
 }
 
 fn positive(x: f64) -> bool
@@ -207,6 +239,12 @@ fn step_ok(h: f64) -> bool
     ensures { λ r. ⌜ r ≡ stepOk h ⌝ }
 {
     float::finite(h) & !(h == 0.0)
+}
+
+fn good4(s: Session) -> bool
+    ensures { λ r. ⌜ r ≡ good4 s ⌝ }
+{
+    positive(s.relative) & positive(s.absolute)
 }
 
 fn good5(a: Attempt, step: f64) -> bool
@@ -236,8 +274,8 @@ fn good3(s: Session) -> bool
 }
 
 // The number by which a session is refused, 0 if by none.
-fn fault(p: Phase, s: Session) -> u8
-    ensures { λ r. ⌜ r ≡ fault p s ⌝ }
+fn session_fault(wants: Wants, s: Session) -> u8
+    ensures { λ r. ⌜ r ≡ fault (sessionTests wants s) ⌝ }
 {
     if !good1(s) {
         return 1;
@@ -245,13 +283,13 @@ fn fault(p: Phase, s: Session) -> u8
     if !good2(s) {
         return 2;
     }
-    let attempt = s.attempt;
-    if !in_phase(p, attempt, s.count, wanted(s.scheme, s.n, attempt)) {
+    if !good7(wants, s) {
         return 7;
     }
-    if !(positive(s.relative) & positive(s.absolute)) {
+    if !good4(s) {
         return 4;
     }
+    let attempt = s.attempt;
     if !good5(attempt, s.step) {
         return 5;
     }
@@ -263,16 +301,16 @@ fn fault(p: Phase, s: Session) -> u8
 
 // ---- what is refused of what is handed in
 
-fn fault_vector(n: usize, x: [f64; 16], lent: bool) -> u8
-    ensures { λ r. ⌜ r ≡ faultVector n x lent ⌝ }
+fn vector_fault(n: usize, x: [f64; 16], lent: bool) -> u8
+    ensures { λ r. ⌜ r ≡ fault (vectorTests n x lent) ⌝ }
 {
-    if places::clear(&x, n) & lent {
-        if evaluation::all_finite(&x) {
-            return 0;
-        }
+    if !(places::clear(&x, n) & lent) {
+        return 1;
+    }
+    if !evaluation::all_finite(&x) {
         return 3;
     }
-    1
+    0
 }
 
 fn attempt_of(w: Wish) -> Attempt
@@ -284,20 +322,71 @@ fn attempt_of(w: Wish) -> Attempt
     }
 }
 
-fn fault_begin(n: usize, step: f64, a: Attempt, jacobian: [f64; 256], lent: usize) -> u8
+fn attempt_fault(n: usize, step: f64, a: Attempt, jacobian: [f64; 256], lent: usize) -> u8
     requires { ⌜ n ≤ 16 ⌝ }
-    ensures { λ r. ⌜ r ≡ faultBegin n step a jacobian lent ⌝ }
+    ensures { λ r. ⌜ r ≡ fault (attemptTests n step a jacobian lent) ⌝ }
 {
-    if places::clear(&jacobian, used_jacobian(a, n)) & (lent == n) {
-        if step_ok(step) {
-            if evaluation::all_finite(&jacobian) {
-                return 0;
-            }
-            return 3;
-        }
+    if !(places::clear(&jacobian, used_jacobian(a, n)) & (lent == n)) {
+        return 1;
+    }
+    if !step_ok(step) {
         return 5;
     }
-    1
+    if !evaluation::all_finite(&jacobian) {
+        return 3;
+    }
+    0
+}
+
+fn largest_fault(largest: f64) -> u8
+    ensures { λ r. ⌜ r ≡ fault (largestTests largest) ⌝ }
+{
+    if !(2.220446049250313e-16 <= largest) {
+        return 5;
+    }
+    0
+}
+
+// ---- what a call is refused for: the session, then what is handed in
+
+fn begin_fault(s: Session, step: f64, a: Attempt, jacobian: [f64; 256], lent: usize) -> u8
+    ensures { λ r. ⌜ r ≡ fault (beginTests s step a jacobian lent) ⌝ }
+{
+    let k = session_fault(Wants::Only(Phase::Rest), s);
+    if k == 0 {
+        return attempt_fault(s.n, step, a, jacobian, lent);
+    }
+    k
+}
+
+fn supply_fault(s: Session, answer: [f64; 16], lent: usize) -> u8
+    ensures { λ r. ⌜ r ≡ fault (supplyTests s answer lent) ⌝ }
+{
+    let k = session_fault(Wants::Only(Phase::Asking), s);
+    if k == 0 {
+        return vector_fault(s.n, answer, lent == s.n);
+    }
+    k
+}
+
+fn accept_fault(s: Session, derivative: [f64; 16]) -> u8
+    ensures { λ r. ⌜ r ≡ fault (acceptTests s derivative) ⌝ }
+{
+    let k = session_fault(Wants::Only(Phase::Waiting), s);
+    if k == 0 {
+        return vector_fault(s.n, derivative, true);
+    }
+    k
+}
+
+fn first_step_fault(s: Session, largest: f64) -> u8
+    ensures { λ r. ⌜ r ≡ fault (firstStepTests s largest) ⌝ }
+{
+    let k = session_fault(Wants::Any, s);
+    if k == 0 {
+        return largest_fault(largest);
+    }
+    k
 }
 
 // ---- the attempt, as far as its answers go
@@ -437,30 +526,25 @@ fn run_pass(s: Session) -> methods::StepResult
 
 // ---- the session that comes back
 
-// The run of s with another attempt, or without one.
+// The run of s with another attempt, which has no answer yet.
 fn begun(s: Session, step: f64, attempt: Attempt, jacobian: [f64; 256]) -> Session
     ensures { λ r. ⌜ r ≡ begun s step attempt jacobian ⌝ }
 {
-    let state = s.state;
-    let derivative = s.derivative;
-    let history = s.history;
-    let previous = s.previous;
     Session {
-        scheme: s.scheme,
-        n: s.n,
-        time: s.time,
-        state: state,
-        derivative: derivative,
-        relative: s.relative,
-        absolute: s.absolute,
-        history: history,
-        previous: previous,
-        attempt: attempt,
-        step: step,
-        jacobian: jacobian,
+        attempt,
+        step,
+        jacobian,
         count: 0,
         answers: [0.0; 320],
+        ..s
     }
+}
+
+// The run of s at rest.
+fn rested(s: Session) -> Session
+    ensures { λ r. ⌜ r ≡ rested s ⌝ }
+{
+    begun(s, 0.0, Attempt::None, [0.0; 256])
 }
 
 // s with one answer more.
@@ -470,37 +554,28 @@ fn answered(s: Session, answer: [f64; 16]) -> Session
 {
     let count = s.count;
     let answers = s.answers;
-    let mut r = s;
-    let all = places::put(answers, count, answer);
-    r.answers = all;
-    r.count = count + 1;
-    r
+    let answers = places::put(answers, count, answer);
+    Session {
+        count: count + 1,
+        answers,
+        ..s
+    }
 }
 
-// A session with no attempt.
-fn opened(
-    scheme: u8,
-    n: usize,
-    time: f64,
-    state: [f64; 16],
-    derivative: [f64; 16],
-    relative: f64,
-    absolute: f64,
-    history: History,
-    previous: [f64; 16],
-) -> Session
-    ensures { λ r. ⌜ r ≡ opened scheme n time state derivative relative absolute history previous ⌝ }
+// What a refused open returns.
+fn nothing() -> Session
+    ensures { λ r. ⌜ r ≡ nothing ⌝ }
 {
     Session {
-        scheme: scheme,
-        n: n,
-        time: time,
-        state: state,
-        derivative: derivative,
-        relative: relative,
-        absolute: absolute,
-        history: history,
-        previous: previous,
+        scheme: 0,
+        n: 0,
+        time: 0.0,
+        state: [0.0; 16],
+        derivative: [0.0; 16],
+        relative: 0.0,
+        absolute: 0.0,
+        history: History::Missing,
+        previous: [0.0; 16],
         attempt: Attempt::None,
         step: 0.0,
         jacobian: [0.0; 256],
@@ -509,24 +584,7 @@ fn opened(
     }
 }
 
-// What a refused open returns.
-fn nothing() -> Session
-    ensures { λ r. ⌜ r ≡ nothing ⌝ }
-{
-    opened(
-        0,
-        0,
-        0.0,
-        [0.0; 16],
-        [0.0; 16],
-        0.0,
-        0.0,
-        History::Missing,
-        [0.0; 16],
-    )
-}
-
-// s moved to a time and a state; Etd2 keeps the nonlinear part.
+// s moved to a time and a state, at rest; Etd2 keeps the nonlinear part.
 fn moved(
     s: Session,
     time: f64,
@@ -536,32 +594,21 @@ fn moved(
 ) -> Session
     ensures { λ r. ⌜ r ≡ moved s time state derivative nonlinear ⌝ }
 {
-    let previous = s.previous;
-    let history = s.history;
-    if s.scheme == 13 {
-        return opened(
-            s.scheme,
-            s.n,
-            time,
-            state,
-            derivative,
-            s.relative,
-            s.absolute,
-            History::Held,
-            nonlinear,
-        );
-    }
-    opened(
-        s.scheme,
-        s.n,
+    let rest = rested(s);
+    let next = Session {
         time,
         state,
         derivative,
-        s.relative,
-        s.absolute,
-        history,
-        previous,
-    )
+        ..rest
+    };
+    if s.scheme == 13 {
+        return Session {
+            history: History::Held,
+            previous: nonlinear,
+            ..next
+        };
+    }
+    next
 }
 
 // ---- what is told
@@ -591,6 +638,24 @@ fn answer_of(s: Session, kind: methods::Kind, x: [f64; 16], e: [f64; 16]) -> Ans
     }
 }
 
+fn refused(s: Session, k: u8) -> Told
+    ensures { λ r. ⌜ r ≡ refuse s k ⌝ }
+{
+    Told {
+        answer: Answer::Refused(k),
+        session: s,
+    }
+}
+
+fn resting(s: Session) -> Told
+    ensures { λ r. ⌜ r ≡ tell Answer.Resting s ⌝ }
+{
+    Told {
+        answer: Answer::Resting,
+        session: s,
+    }
+}
+
 // What is told of a session with an attempt; the old one goes back where it is refused.
 fn show(old: Session, s: Session, out: &mut [f64]) -> Told
     requires { ⌜ Sound s ⌝ }
@@ -604,15 +669,9 @@ fn show(old: Session, s: Session, out: &mut [f64]) -> Told
         let e = w.error;
         places::copy_out(x, &mut *out);
         let answer = answer_of(s, kind, x, e);
-        return Told {
-            answer: answer,
-            session: s,
-        };
+        return Told { answer, session: s };
     }
-    Told {
-        answer: Answer::Refused(6),
-        session: old,
-    }
+    refused(old, 6)
 }
 
 // The candidate becomes the state; refused where the time is not finite.
@@ -621,16 +680,9 @@ fn arrive(s: Session, candidate: [f64; 16], derivative: [f64; 16], nonlinear: [f
 {
     let t = s.time + s.step;
     if float::finite(t) {
-        let next = moved(s, t, candidate, derivative, nonlinear);
-        return Told {
-            answer: Answer::Resting,
-            session: next,
-        };
+        return resting(moved(s, t, candidate, derivative, nonlinear));
     }
-    Told {
-        answer: Answer::Refused(6),
-        session: s,
-    }
+    refused(s, 6)
 }
 
 fn settle(s: Session, derivative: [f64; 16]) -> Told
@@ -645,11 +697,9 @@ fn settle(s: Session, derivative: [f64; 16]) -> Told
         if let methods::Kind::Done = kind {
             return arrive(s, candidate, derivative, nonlinear);
         }
+        return refused(s, 6);
     }
-    Told {
-        answer: Answer::Refused(6),
-        session: s,
-    }
+    refused(s, 6)
 }
 
 // ---- the calls
@@ -667,9 +717,20 @@ impl Session {
         history: History,
         previous: [f64; 16],
     ) -> Told
-        ensures { λ r. ⌜ r ≡ openCall scheme n time state derivative relative absolute history previous ⌝ }
+        ensures { λ r. ⌜ r ≡ openCall (record {
+          scheme = scheme;
+          n = n;
+          time = time;
+          state = state;
+          derivative = derivative;
+          relative = relative;
+          absolute = absolute;
+          history = history;
+          previous = previous;
+        }) ⌝ }
     {
-        let s = opened(
+        let none = nothing();
+        let s = Session {
             scheme,
             n,
             time,
@@ -679,141 +740,89 @@ impl Session {
             absolute,
             history,
             previous,
-        );
-        let k = fault(Phase::Any, s);
+            ..none
+        };
+        let k = session_fault(Wants::Any, s);
         if k == 0 {
-            return Told {
-                answer: Answer::Resting,
-                session: s,
-            };
+            return resting(s);
         }
-        let none = nothing();
-        Told {
-            answer: Answer::Refused(k),
-            session: none,
-        }
+        refused(none, k)
     }
 
     // Begins an attempt: the first question, or the candidate where there is none, fills `out`.
     pub fn begin(self, step: f64, wish: Wish, jacobian: [f64; 256], out: &mut [f64]) -> Told
         ensures { λ r. ⌜ outcome r (now (out .exit)) ≡ beginCall self step wish jacobian (now (out .entry)) ⌝ }
     {
-        let k = fault(Phase::Rest, self);
+        let a = attempt_of(wish);
+        let k = begin_fault(self, step, a, jacobian, out.len());
         if k == 0 {
-            let a = attempt_of(wish);
-            let k2 = fault_begin(self.n, step, a, jacobian, out.len());
-            if k2 == 0 {
-                return show(self, begun(self, step, a, jacobian), &mut *out);
-            }
-            return Told {
-                answer: Answer::Refused(k2),
-                session: self,
-            };
+            return show(self, begun(self, step, a, jacobian), &mut *out);
         }
-        Told {
-            answer: Answer::Refused(k),
-            session: self,
-        }
+        refused(self, k)
     }
 
     // Supplies the derivative that was asked for: the next question, or the candidate, fills `out`.
     pub fn supply(self, answer: [f64; 16], out: &mut [f64]) -> Told
         ensures { λ r. ⌜ outcome r (now (out .exit)) ≡ supplyCall self answer (now (out .entry)) ⌝ }
     {
-        let k = fault(Phase::Asking, self);
+        let k = supply_fault(self, answer, out.len());
         if k == 0 {
-            let k2 = fault_vector(self.n, answer, out.len() == self.n);
-            if k2 == 0 {
-                return show(self, answered(self, answer), &mut *out);
-            }
-            return Told {
-                answer: Answer::Refused(k2),
-                session: self,
-            };
+            return show(self, answered(self, answer), &mut *out);
         }
-        Told {
-            answer: Answer::Refused(k),
-            session: self,
-        }
+        refused(self, k)
     }
 
     // Accepts the candidate, with the derivative there.
     pub fn accept(self, derivative: [f64; 16]) -> Told
         ensures { λ r. ⌜ r ≡ acceptCall self derivative ⌝ }
     {
-        let k = fault(Phase::Waiting, self);
+        let k = accept_fault(self, derivative);
         if k == 0 {
-            let k2 = fault_vector(self.n, derivative, true);
-            if k2 == 0 {
-                return settle(self, derivative);
-            }
-            return Told {
-                answer: Answer::Refused(k2),
-                session: self,
-            };
+            return settle(self, derivative);
         }
-        Told {
-            answer: Answer::Refused(k),
-            session: self,
-        }
+        refused(self, k)
     }
 
     // Drops the attempt, if there is one.
     pub fn drop(self) -> Told
         ensures { λ r. ⌜ r ≡ dropCall self ⌝ }
     {
-        let k = fault(Phase::Any, self);
+        let k = session_fault(Wants::Any, self);
         if k == 0 {
-            let rest = begun(self, 0.0, Attempt::None, [0.0; 256]);
-            return Told {
-                answer: Answer::Resting,
-                session: rest,
-            };
+            return resting(rested(self));
         }
-        Told {
-            answer: Answer::Refused(k),
-            session: self,
-        }
+        refused(self, k)
     }
 
     // The first step that the run's figures suggest, at most `largest`.
     pub fn first_step(self, largest: f64) -> Told
         ensures { λ r. ⌜ r ≡ firstStepCall self largest ⌝ }
     {
-        let k = fault(Phase::Any, self);
+        let k = first_step_fault(self, largest);
         if k == 0 {
-            if 2.220446049250313e-16 <= largest {
-                let state = self.state;
-                let derivative = self.derivative;
-                let h = engine::estimate_initial_step(
-                    self.n,
-                    self.relative,
-                    self.absolute,
-                    state,
-                    derivative,
-                    largest,
-                );
-                return Told {
-                    answer: Answer::FirstStep(h),
-                    session: self,
-                };
-            }
+            let state = self.state;
+            let derivative = self.derivative;
+            let h = engine::estimate_initial_step(
+                self.n,
+                self.relative,
+                self.absolute,
+                state,
+                derivative,
+                largest,
+            );
             return Told {
-                answer: Answer::Refused(5),
+                answer: Answer::FirstStep(h),
                 session: self,
             };
         }
-        Told {
-            answer: Answer::Refused(k),
-            session: self,
-        }
+        refused(self, k)
     }
 }
 
 // ---- the bare calls
 
-fn fault_exponential(size: usize, m: &[f64], lent: usize) -> u8
-    ensures { λ r. ⌜ r ≡ faultExponential size (now (m .entry)) lent ⌝ }
+fn exponential_fault(size: usize, m: &[f64], lent: usize) -> u8
+    ensures { λ r. ⌜ r ≡ fault (exponentialTests size (now (m .entry)) lent) ⌝ }
 {
     if (1 <= size) & (size <= 20) {
         if (m.len() == size * size) & (lent == size * size) {
@@ -830,7 +839,7 @@ fn fault_exponential(size: usize, m: &[f64], lent: usize) -> u8
 pub fn exponential(size: usize, m: &[f64], out: &mut [f64]) -> Answer
     ensures { λ r. ⌜ bare r (now (out .exit)) ≡ exponentialCall size (now (m .entry)) (now (out .entry)) ⌝ }
 {
-    let k = fault_exponential(size, m, out.len());
+    let k = exponential_fault(size, m, out.len());
     if k == 0 {
         if matrix::matrix_exp(m, &mut *out, size) {
             return Answer::Filled;
@@ -840,8 +849,8 @@ pub fn exponential(size: usize, m: &[f64], out: &mut [f64]) -> Answer
     Answer::Refused(k)
 }
 
-fn fault_phi(n: usize, order: usize, scale_a: f64, a: &[f64], input: &[f64], lent: usize) -> u8
-    ensures { λ r. ⌜ r ≡ faultPhi n order «scale_a» (now (a .entry)) (now (input .entry)) lent ⌝ }
+fn phi_fault(n: usize, order: usize, scale_a: f64, a: &[f64], input: &[f64], lent: usize) -> u8
+    ensures { λ r. ⌜ r ≡ fault (phiTests n order «scale_a» (now (a .entry)) (now (input .entry)) lent) ⌝ }
 {
     if (1 <= n) & (n <= 16) & (1 <= order) & (order <= 4) {
         if (a.len() == n * n) & (input.len() == n) & (lent == n) {
@@ -865,7 +874,7 @@ pub fn phi_action(
 ) -> Answer
     ensures { λ r. ⌜ bare r (now (out .exit)) ≡ phiCall n order «scale_a» (now (a .entry)) (now (input .entry)) (now (out .entry)) ⌝ }
 {
-    let k = fault_phi(n, order, scale_a, a, input, out.len());
+    let k = phi_fault(n, order, scale_a, a, input, out.len());
     if k == 0 {
         let action = methods::phi_action(a, scale_a, order, places::vector(input, n), n);
         let tally = action.tally;
@@ -879,7 +888,7 @@ pub fn phi_action(
     Answer::Refused(k)
 }
 
-fn fault_norm(
+fn norm_fault(
     n: usize,
     relative: f64,
     absolute: f64,
@@ -887,7 +896,7 @@ fn fault_norm(
     state: [f64; 16],
     candidate: [f64; 16],
 ) -> u8
-    ensures { λ r. ⌜ r ≡ faultNorm n relative absolute error state candidate ⌝ }
+    ensures { λ r. ⌜ r ≡ fault (normTests n relative absolute error state candidate) ⌝ }
 {
     if (1 <= n)
         & (n <= 16)
@@ -920,7 +929,7 @@ pub fn error_norm(
 ) -> Answer
     ensures { λ r. ⌜ r ≡ normCall n relative absolute error state candidate ⌝ }
 {
-    let k = fault_norm(n, relative, absolute, error, state, candidate);
+    let k = norm_fault(n, relative, absolute, error, state, candidate);
     if k == 0 {
         return Answer::Norm(engine::scaled_error_norm(
             n,

@@ -11,6 +11,12 @@ answer-of-spec =
     (tie.spec
     (λ c. search needs)
     (λ c. search needs)
-    (λ c κs. c .before .before .pre)
-    (λ c. rw (c .before .kind .given .1))
-    (λ c. rw (c .before .enum-told .given .1) (c .ready-of .ensures)))
+    (λ c κs.
+    let c2 = c .before .before in
+    c2 .pre)
+    (λ c.
+    let c1 = c .before in
+    rw (c1 .kind .given .1))
+    (λ c.
+    let c1 = c .before in
+    rw (c1 .enum-told .given .1) (c .ready-of .ensures)))

@@ -11,4 +11,6 @@ answered-spec =
     (tie.spec
     (λ c κs. search needs)
     (λ c. search needs)
-    (λ c. rw (c .put .ensures)))
+    (λ c.
+    let c4 = c .before .before .before .before in
+    rw (c4 .put .ensures)))

@@ -11,5 +11,14 @@ arrive-spec =
     (tie.spec
     (λ c κs. search needs)
     (λ c κs. search needs)
-    (λ c. rw (← (c .before .before .finite .ensures), c .before .if1 .taken, c .moved .ensures))
-    (λ c. rw (← (c .before .finite .ensures), c .if1 .left)))
+    (λ c κs. search needs)
+    (λ c.
+    let c1 = c .before in
+    let c2 = c1 .before in
+    let c3 = c2 .before in
+    rw (← (c3 .finite .ensures), c2 .if1 .taken, ← (c1 .moved .ensures)) (c .resting .ensures))
+    (λ c κs. search needs)
+    (λ c.
+    let c1 = c .before in
+    let c2 = c1 .before in
+    rw (← (c2 .finite .ensures), c1 .if1 .left) (c .refused .ensures)))

@@ -1,9 +1,11 @@
 -- `session::Session::first_step` meets its contract. Assumes nothing.
 use borrow.Author.Needs.{needs}
 use mathlib.Core.Path.{sym, _∙_}
-use Rattle.session.specs.Calls.{firstStepCall, unless}
-use Rattle.session.specs.declared.Phase.the-variants.{Any}
-use Rattle.session.proofs.Laws.{fault-none, unless-refused}
+use Rattle.session.specs.declared.Wants.the-variants.{Any}
+use Rattle.session.specs.Tests.{unless}
+use Rattle.session.specs.Calls.{firstStepCall}
+use Rattle.session.proofs.Tests.{unless-refused}
+use Rattle.session.proofs.Laws.{fault-none, first-step-passes}
 use Rattle.session.proofs.Session.first_step.Statement.{statement}
 use Rattle.session.proofs.Session.first_step.Tie as tie
 
@@ -13,7 +15,16 @@ first-step-spec =
     tie.close
     (tie.spec
     (λ c κs. search needs)
-    (λ c κs. fault-none Any _ (sym (c .before .before .before .before .fault .ensures) ∙ c .before .before .before .if1 .taken) .0 .small)
-    (λ c. rw (← (c .before .before .before .before .before .fault .ensures), c .before .before .before .before .if1 .taken, c .before .before .before .if2 .taken, c .estimate-initial-step .ensures))
-    (λ c. rw (← (c .before .before .fault .ensures), c .before .if1 .taken, c .if2 .left))
-    (λ c. rw (← (c .before .fault .ensures)) (unless-refused _ _ _ (c .if1 .left))))
+    (λ c κs.
+    let c2 = c .before .before in
+    let c3 = c2 .before in
+    fault-none Any _ (first-step-passes _ _ (sym (c3 .first-step-fault .ensures) ∙ c2 .if1 .taken)) .small)
+    (λ c.
+    let c3 = c .before .before .before in
+    let c4 = c3 .before in
+    rw (← (c4 .first-step-fault .ensures), c3 .if1 .taken, c .estimate-initial-step .ensures))
+    (λ c κs. search needs)
+    (λ c.
+    let c1 = c .before in
+    let c2 = c1 .before in
+    rw (← (c2 .first-step-fault .ensures), c .refused .ensures) (unless-refused _ _ _ (c1 .if1 .left))))

@@ -1,0 +1,459 @@
+-- A session that an accepted call returns is refused by nothing but 7. Assumes nothing.
+use Prim.Native.Nat.{ℕ, suc, _+_, _*_, _≤_, _<_}
+use native.Mathlib.Decide.{ℕ-discrete}
+use native.Mathlib.Omega.{arith}
+use mathlib.Core.Path.{_≡_, refl, sym, ap, _∙_, subst}
+use mathlib.Core.Logic.{_⊎_, inl, inr}
+use mathlib.Core.Bool.{Bool, true, false, cond, _&&_, false≢true}
+use mathlib.Core.List.{List, [], _∷_}
+use lib.Dec.{leb, eqb}
+use lib.Ieee.{Float, ofBits}
+use lib.ListN.{length, replicate, length-replicate}
+use borrow.Author.Tests.{le-leb, leb-true}
+use Rattle.loops.specs.Loop.{stores, _!_}
+use Rattle.loops.proofs.Stores.{length-stores}
+use Rattle.float.specs.Arith.{_⊕_, zero+, finite, plusZero}
+use Rattle.evaluation.specs.Evaluation.{allFinite}
+use Rattle.methods.specs.Step.{Progress, refused, asking, ended}
+use Rattle.methods.specs.Shape.{Whole}
+use Rattle.session.specs.declared.Session.{Session}
+use Rattle.session.specs.declared.Told.{Told}
+use Rattle.session.specs.declared.Answer.{Answer}
+use Rattle.session.specs.declared.Answer.the-variants.{Resting, FirstStep, Refused}
+use Rattle.session.specs.declared.History.{History}
+use Rattle.session.specs.declared.History.the-variants.{Missing, Held}
+use Rattle.session.specs.declared.Attempt.{Attempt}
+use Rattle.session.specs.declared.Attempt.the-variants.{None, Supplied, Differenced}
+use Rattle.session.specs.declared.Wish.{Wish}
+use Rattle.session.specs.declared.Wish.the-variants.{Given, Difference}
+use Rattle.session.specs.declared.Phase.the-variants.{Rest, Asking, Waiting}
+use Rattle.session.specs.declared.Wants.{Wants}
+use Rattle.session.specs.declared.Wants.the-variants.{Any, Only}
+use Rattle.session.specs.Tests.{fault, condition, unless}
+use Rattle.session.specs.Values.{number, valuesOf, figured}
+use Rattle.session.specs.Session.{Run, joined, fresh, idle, clear, clearAnswers, usedHistory, usedJacobian, stepClear, wanted, wantedBy, admits}
+use Rattle.session.specs.Session.{sizeOk, runPlaces, attemptPlaces, good1, historyOk, good2, good7, good4, stepOk, good5, good3, sessionTests, progress}
+use Rattle.session.specs.Calls.{Outcome, outcome, tell, refuse, refuseLent, opened, nothing, begun, rested, answered, moved, readyOf, shown, arrived, settled, attemptOf}
+use Rattle.session.specs.Calls.{vectorTests, attemptTests, beginTests, supplyTests, acceptTests, firstStepTests}
+use Rattle.session.specs.Calls.{openCall, beginCall, supplyCall, acceptCall, dropCall, firstStepCall}
+use Rattle.session.specs.Refusals.{Kept, Unchanged}
+use Rattle.session.specs.Runs.{Call, begin, supply, accept, drop, firstStep, perform, after}
+use Rattle.session.specs.Claims.{TypedCall, TypedCalls, Closed, Closes}
+use Rattle.session.proofs.Tests.{both-true, unless-either}
+use Rattle.session.proofs.Laws.{session-row, fault-none, wants-more, few-answers, begin-passes, supply-passes, accept-passes, first-step-passes, attempt-row, vector-row}
+use Rattle.session.proofs.Clear.{clear-zeros, clear-answers-zeros, finite-zeros, vector-clear, clear-answered, finite-answered}
+use Rattle.session.proofs.Refusals.{refusals}
+use Rattle.session.proofs.Ends.{Wholes, ended-whole}
+
+-- ---- what every test but 7's says of a session
+
+pub record Good (s : Session) : Type 0 where
+  pub size : sizeOk (s .n) ≡ true
+  pub state : clear (s .n) (s .state) ≡ true
+  pub derivative : clear (s .n) (s .derivative) ≡ true
+  pub previous : clear (usedHistory (s .history) (s .n)) (s .previous) ≡ true
+  pub step : stepClear (s .attempt) (s .step) ≡ true
+  pub jacobian : clear (usedJacobian (s .attempt) (s .n)) (s .jacobian) ≡ true
+  pub answers : clearAnswers (s .count) (s .n) (s .answers) ≡ true
+  pub scheme : leb (s .scheme) 15 ≡ true
+  pub history : historyOk (s .history) (s .scheme) ≡ true
+  pub count : leb (s .count) (wantedBy s) ≡ true
+  pub tolerances : good4 s ≡ true
+  pub attempt : good5 (s .attempt) (s .step) ≡ true
+  pub time-finite : finite (s .time) ≡ true
+  pub state-finite : allFinite (s .state) ≡ true
+  pub derivative-finite : allFinite (s .derivative) ≡ true
+  pub previous-finite : allFinite (s .previous) ≡ true
+  pub jacobian-finite : allFinite (s .jacobian) ≡ true
+  pub answers-finite : allFinite (s .answers) ≡ true
+
+sized : (b p : Bool) → cond b p false ≡ true → (b ≡ true) × (p ≡ true)
+sized true p e = (refl, e)
+sized false p e = absurd (false≢true e)
+
+-- both ways: from the rows, and to them
+pub passed-good : (wants : Wants) (s : Session) → fault (sessionTests wants s) ≡ 0 → Good s
+passed-good wants s e =
+    let one = sized (sizeOk (s .n)) (runPlaces s && attemptPlaces s) (unfold condition sessionTests good1 in session-row wants s e 1) in
+    let both = both-true (runPlaces s) (attemptPlaces s) (one .1) in
+    let run = both-true (clear (s .n) (s .state) && clear (s .n) (s .derivative)) (clear (usedHistory (s .history) (s .n)) (s .previous)) (unfold runPlaces in both .0) in
+    let two = both-true (clear (s .n) (s .state)) (clear (s .n) (s .derivative)) (run .0) in
+    let trial =
+    both-true (stepClear (s .attempt) (s .step) && clear (usedJacobian (s .attempt) (s .n)) (s .jacobian)) (clearAnswers (s .count) (s .n) (s .answers))
+    (unfold attemptPlaces in both .1) in
+    let head = both-true (stepClear (s .attempt) (s .step)) (clear (usedJacobian (s .attempt) (s .n)) (s .jacobian)) (trial .0) in
+    let scheme =
+    both-true (leb (s .scheme) 15 && historyOk (s .history) (s .scheme)) (leb (s .count) (wantedBy s))
+    (unfold condition sessionTests good2 in session-row wants s e 2) in
+    let scheme2 = both-true (leb (s .scheme) 15) (historyOk (s .history) (s .scheme)) (scheme .0) in
+    let all =
+    both-true (finite (s .time) && allFinite (s .state) && allFinite (s .derivative) && allFinite (s .previous) && allFinite (s .jacobian)) (allFinite (s .answers))
+    (unfold condition sessionTests good3 in session-row wants s e 3) in
+    let four = both-true (finite (s .time) && allFinite (s .state) && allFinite (s .derivative) && allFinite (s .previous)) (allFinite (s .jacobian)) (all .0) in
+    let three = both-true (finite (s .time) && allFinite (s .state) && allFinite (s .derivative)) (allFinite (s .previous)) (four .0) in
+    let pair = both-true (finite (s .time) && allFinite (s .state)) (allFinite (s .derivative)) (three .0) in
+    let first = both-true (finite (s .time)) (allFinite (s .state)) (pair .0) in
+    record {
+      size = one .0;
+      state = two .0;
+      derivative = two .1;
+      previous = run .1;
+      step = head .0;
+      jacobian = head .1;
+      answers = trial .1;
+      scheme = scheme2 .0;
+      history = scheme2 .1;
+      count = scheme .1;
+      tolerances = unfold condition sessionTests in session-row wants s e 4;
+      attempt = unfold condition sessionTests in session-row wants s e 5;
+      time-finite = first .0;
+      state-finite = first .1;
+      derivative-finite = pair .1;
+      previous-finite = three .1;
+      jacobian-finite = four .1;
+      answers-finite = all .1;
+    }
+
+pub good-closed : {s : Session} → Good s → Closed s
+unfolding Closed fault sessionTests good1 runPlaces attemptPlaces good2 good3
+good-closed {s} g wants =
+    rw (
+      g .size,
+      g .state,
+      g .derivative,
+      g .previous,
+      g .step,
+      g .jacobian,
+      g .answers,
+      g .scheme,
+      g .history,
+      g .count,
+      g .tolerances,
+      g .attempt,
+      g .time-finite,
+      g .state-finite,
+      g .derivative-finite,
+      g .previous-finite,
+      g .jacobian-finite,
+      g .answers-finite,
+    )
+
+-- ---- the sessions that the calls make
+
+started : (w : Wish) (step : Float) → stepClear (attemptOf w) step ≡ true
+unfolding attemptOf stepClear
+started Given step = refl
+started Difference step = refl
+
+step-good : (w : Wish) (step : Float) → stepOk step ≡ true → good5 (attemptOf w) step ≡ true
+unfolding attemptOf good5
+step-good Given step e = e
+step-good Difference step e = e
+
+pub begun-good : (s : Session) (step : Float) (w : Wish) (j : List Float) (lent : ℕ) → Good s → fault (attemptTests (s .n) step (attemptOf w) j lent) ≡ 0
+    → Good (begun s step (attemptOf w) j)
+unfolding begun fresh good4
+begun-good s step w j lent g e =
+    let row = attempt-row (s .n) step (attemptOf w) j lent e in
+    record {
+      size = g .size;
+      state = g .state;
+      derivative = g .derivative;
+      previous = g .previous;
+      step = started w step;
+      jacobian = both-true (clear (usedJacobian (attemptOf w) (s .n)) j) (eqb lent (s .n)) (unfold condition attemptTests in row 1) .0;
+      answers = clear-answers-zeros 0 (s .n) 320;
+      scheme = g .scheme;
+      history = g .history;
+      count = le-leb 0 (wanted (s .scheme) (s .n) (attemptOf w)) (omega arith);
+      tolerances = g .tolerances;
+      attempt = step-good w step (unfold condition attemptTests in row 5);
+      time-finite = g .time-finite;
+      state-finite = g .state-finite;
+      derivative-finite = g .derivative-finite;
+      previous-finite = g .previous-finite;
+      jacobian-finite = unfold condition attemptTests in row 3;
+      answers-finite = finite-zeros 320;
+    }
+
+pub answered-good : (s : Session) (x : List Float) (lent : Bool) → length x ≡ 16 → length (s .answers) ≡ 320 → Good s
+    → s .count < 20 → s .count < wantedBy s → fault (vectorTests (s .n) x lent) ≡ 0 → Good (answered s x)
+unfolding answered good4
+answered-good s x lent sixteen room g few more e =
+    let row = vector-row (s .n) x lent e in
+    record {
+      size = g .size;
+      state = g .state;
+      derivative = g .derivative;
+      previous = g .previous;
+      step = g .step;
+      jacobian = g .jacobian;
+      answers =
+          clear-answered (s .n) (s .count) x (s .answers) sixteen (omega arith)
+          (both-true (clear (s .n) x) lent (unfold condition vectorTests in row 1) .0) (g .answers);
+      scheme = g .scheme;
+      history = g .history;
+      count = le-leb (s .count + 1) (wantedBy s) (omega arith);
+      tolerances = g .tolerances;
+      attempt = g .attempt;
+      time-finite = g .time-finite;
+      state-finite = g .state-finite;
+      derivative-finite = g .derivative-finite;
+      previous-finite = g .previous-finite;
+      jacobian-finite = g .jacobian-finite;
+      answers-finite = finite-answered (s .n) (s .count) x (s .answers) sixteen (omega arith) (unfold condition vectorTests in row 3) (g .answers-finite);
+    }
+
+-- a run at rest: what is asked of its fields
+pub record GoodRun (r : Run) : Type 0 where
+  pub size : sizeOk (r .n) ≡ true
+  pub state : clear (r .n) (r .state) ≡ true
+  pub derivative : clear (r .n) (r .derivative) ≡ true
+  pub previous : clear (usedHistory (r .history) (r .n)) (r .previous) ≡ true
+  pub scheme : leb (r .scheme) 15 ≡ true
+  pub history : historyOk (r .history) (r .scheme) ≡ true
+  pub tolerances : good4 (opened r) ≡ true
+  pub time-finite : finite (r .time) ≡ true
+  pub state-finite : allFinite (r .state) ≡ true
+  pub derivative-finite : allFinite (r .derivative) ≡ true
+  pub previous-finite : allFinite (r .previous) ≡ true
+
+zero-clear : stepClear None zero+ ≡ true
+unfolding stepClear plusZero ofBits
+zero-clear = refl
+
+pub opened-good : (r : Run) → GoodRun r → Good (opened r)
+unfolding opened idle fresh wanted good5 usedJacobian
+opened-good r g = record {
+  size = g .size;
+  state = g .state;
+  derivative = g .derivative;
+  previous = g .previous;
+  step = zero-clear;
+  jacobian = clear-zeros 0 256;
+  answers = clear-answers-zeros 0 (r .n) 320;
+  scheme = g .scheme;
+  history = g .history;
+  count = refl;
+  tolerances = g .tolerances;
+  attempt = refl;
+  time-finite = g .time-finite;
+  state-finite = g .state-finite;
+  derivative-finite = g .derivative-finite;
+  previous-finite = g .previous-finite;
+  jacobian-finite = finite-zeros 256;
+  answers-finite = finite-zeros 320;
+}
+
+pub rested-good : (s : Session) → Good s → Good (rested s)
+unfolding rested
+rested-good s g =
+    opened-good _ (unfold opened good4 in record {
+      size = g .size;
+      state = g .state;
+      derivative = g .derivative;
+      previous = g .previous;
+      scheme = g .scheme;
+      history = g .history;
+      tolerances = g .tolerances;
+      time-finite = g .time-finite;
+      state-finite = g .state-finite;
+      derivative-finite = g .derivative-finite;
+      previous-finite = g .previous-finite;
+    })
+
+-- the history after accept: the nonlinear part under Etd2, otherwise what was there
+module _ (s : Session) (g : List Float) (good : Good s) (G : Whole (s .n) g) where
+  kept-clear : (b : Bool) → clear (usedHistory (cond b Held (s .history)) (s .n)) (cond b g (s .previous)) ≡ true
+  kept-clear true = unfold usedHistory in vector-clear (G .vector)
+  kept-clear false = good .previous
+
+  kept-finite : (b : Bool) → allFinite (cond b g (s .previous)) ≡ true
+  kept-finite true = G .numbers
+  kept-finite false = good .previous-finite
+
+  kept-allowed : (b : Bool) → eqb (s .scheme) 13 ≡ b → historyOk (cond b Held (s .history)) (s .scheme) ≡ true
+  kept-allowed true e = unfold historyOk in e
+  kept-allowed false e = good .history
+
+pub moved-good : (s : Session) (time : Float) (x f g : List Float) → Good s → finite time ≡ true → Whole (s .n) x → Whole (s .n) g
+    → fault (vectorTests (s .n) f true) ≡ 0 → Good (moved s time x f g)
+unfolding moved
+moved-good s time x f g good t X G e =
+    let row = vector-row (s .n) f true e in
+    opened-good _ (unfold opened good4 in record {
+      size = good .size;
+      state = vector-clear (X .vector);
+      derivative = both-true (clear (s .n) f) true (unfold condition vectorTests in row 1) .0;
+      previous = kept-clear s g good G (eqb (s .scheme) 13);
+      scheme = good .scheme;
+      history = kept-allowed s g good G (eqb (s .scheme) 13) refl;
+      tolerances = good .tolerances;
+      time-finite = t;
+      state-finite = X .numbers;
+      derivative-finite = unfold condition vectorTests in row 3;
+      previous-finite = kept-finite s g good G (eqb (s .scheme) 13);
+    })
+
+-- ---- a call that is accepted
+
+-- a refusal has a number
+not-refused : {A : Type 0} (j : ℕ) → number (Refused (suc j)) ≡ 0 → A
+unfolding number valuesOf
+not-refused j e = absurd (omega (arith, e))
+
+-- what is shown of an attempt whose session is good
+shown-good : (old s : Session) (o : List Float) (p : Progress) → Good s → number (shown old s o p .told .answer) ≡ 0 → Good (shown old s o p .told .session)
+unfolding shown
+shown-good old s o refused g e = not-refused 5 e
+shown-good old s o (asking x t) g e = g
+shown-good old s o (ended x d h) g e = g
+
+settled-good : (s : Session) (f : List Float) (p : Progress) → Good s → ((x e g : List Float) → p ≡ ended x e g → Wholes (s .n) x e g)
+    → fault (vectorTests (s .n) f true) ≡ 0 → number (settled s f p .answer) ≡ 0 → Good (settled s f p .session)
+unfolding settled arrived
+settled-good s f refused g w v e = not-refused 5 e
+settled-good s f (asking x t) g w v e = not-refused 5 e
+settled-good s f (ended x d h) g w v e = go (finite (s .time ⊕ s .step)) refl e
+  where
+    k : Wholes (s .n) x d h
+    k = w x d h refl
+
+    go : (b : Bool) → finite (s .time ⊕ s .step) ≡ b → number (cond b (tell Resting (moved s (s .time ⊕ s .step) x f h)) (refuse s 6) .answer) ≡ 0
+        → Good (cond b (tell Resting (moved s (s .time ⊕ s .step) x f h)) (refuse s 6) .session)
+    go true t e = moved-good s (s .time ⊕ s .step) x f h g t (k .candidate) (k .nonlinear) v
+    go false t e = not-refused 5 e
+
+told-good : (k : ℕ) (s : Session) (r : Told) → (k ≡ 0 → number (r .answer) ≡ 0 → Good (r .session)) → number (unless k (refuse s) r .answer) ≡ 0 → Good (unless k (refuse s) r .session)
+told-good k s r h = unless-either k (refuse s) r (λ r. number (r .answer) ≡ 0 → Good (r .session)) (λ j e. not-refused j e) h
+
+lent-good : (k : ℕ) (s : Session) (o : List Float) (r : Outcome) → (k ≡ 0 → number (r .told .answer) ≡ 0 → Good (r .told .session))
+    → number (unless k (refuseLent s o) r .told .answer) ≡ 0 → Good (unless k (refuseLent s o) r .told .session)
+lent-good k s o r h = unless-either k (refuseLent s o) r (λ r. number (r .told .answer) ≡ 0 → Good (r .told .session)) (λ j e. not-refused j e) h
+
+open-good : (r : Run) → number (openCall r .answer) ≡ 0 → Good (openCall r .session)
+unfolding openCall
+open-good r = told-good (fault (sessionTests Any (opened r))) nothing (tell Resting (opened r)) (λ e _. passed-good Any (opened r) e)
+
+begin-good : (s : Session) (step : Float) (w : Wish) (j o : List Float) → number (beginCall s step w j o .told .answer) ≡ 0 → Good (beginCall s step w j o .told .session)
+unfolding beginCall
+begin-good s step w j o =
+    let next = begun s step (attemptOf w) j in
+    lent-good (fault (beginTests s step (attemptOf w) j (length o))) s o (shown s next o (progress next)) (λ e.
+    let p = begin-passes s step (attemptOf w) j (length o) e in
+    shown-good s next o (progress next) (begun-good s step w j (length o) (passed-good (Only Rest) s (p .0)) (p .1)))
+
+supply-good : (s : Session) (x o : List Float) → length x ≡ 16 → length (s .answers) ≡ 320 → number (supplyCall s x o .told .answer) ≡ 0 → Good (supplyCall s x o .told .session)
+unfolding supplyCall
+supply-good s x o sixteen room =
+    let next = answered s x in
+    lent-good (fault (supplyTests s x (length o))) s o (shown s next o (progress next)) (λ e.
+    let p = supply-passes s x (length o) e in
+    shown-good s next o (progress next)
+    (answered-good s x (eqb (length o) (s .n)) sixteen room (passed-good (Only Asking) s (p .0)) (few-answers s (p .0)) (wants-more s (p .0)) (p .1)))
+
+accept-good : (s : Session) (f : List Float) → number (acceptCall s f .answer) ≡ 0 → Good (acceptCall s f .session)
+unfolding acceptCall
+accept-good s f =
+    told-good (fault (acceptTests s f)) s (settled s f (progress s)) (λ e.
+    let p = accept-passes s f e in
+    settled-good s f (progress s) (passed-good (Only Waiting) s (p .0)) (ended-whole s (fault-none (Only Waiting) s (p .0) .small)) (p .1))
+
+drop-good : (s : Session) → number (dropCall s .answer) ≡ 0 → Good (dropCall s .session)
+unfolding dropCall
+drop-good s = told-good (fault (sessionTests Any s)) s (tell Resting (rested s)) (λ e _. rested-good s (passed-good Any s e))
+
+first-good : (s : Session) (largest : Float) → number (firstStepCall s largest .answer) ≡ 0 → Good (firstStepCall s largest .session)
+unfolding firstStepCall
+first-good s largest = told-good (fault (firstStepTests s largest)) s _ (λ e _. passed-good Any s (first-step-passes s largest e))
+
+performed-good : (c : Call) (s : Session) → TypedCall c → length (s .answers) ≡ 320 → number (perform c s .told .answer) ≡ 0 → Good (perform c s .told .session)
+unfolding perform TypedCall
+performed-good (begin step w j o) s t room = begin-good s step w j o
+performed-good (supply x o) s t room = supply-good s x o t room
+performed-good (accept f) s t room = accept-good s f
+performed-good drop s t room = drop-good s
+performed-good (firstStep largest) s t room = first-good s largest
+
+-- ---- the answers keep their room
+
+abbrev pub Room : Session → Type 0
+Room s = length (s .answers) ≡ 320
+
+opened-room : (r : Run) → Room (opened r)
+unfolding opened idle fresh
+opened-room r = length-replicate 320 zero+
+
+shown-room : (old s : Session) (o : List Float) (p : Progress) → Room old → Room s → Room (shown old s o p .told .session)
+unfolding shown
+shown-room old s o refused h k = h
+shown-room old s o (asking x t) h k = k
+shown-room old s o (ended x e g) h k = k
+
+settled-room : (s : Session) (f : List Float) (p : Progress) → Room s → Room (settled s f p .session)
+unfolding settled arrived
+settled-room s f refused h = h
+settled-room s f (asking x t) h = h
+settled-room s f (ended x e g) h = go (finite (s .time ⊕ s .step))
+  where
+    go : (b : Bool) → Room (cond b (tell Resting (moved s (s .time ⊕ s .step) x f g)) (refuse s 6) .session)
+    go true = unfold moved in opened-room _
+    go false = h
+
+told-room : (k : ℕ) (s : Session) (r : Told) → Room s → Room (r .session) → Room (unless k (refuse s) r .session)
+told-room k s r h f = unless-either k (refuse s) r (λ r. Room (r .session)) (λ j. h) (λ _. f)
+
+lent-room : (k : ℕ) (s : Session) (o : List Float) (r : Outcome) → Room s → Room (r .told .session) → Room (unless k (refuseLent s o) r .told .session)
+lent-room k s o r h f = unless-either k (refuseLent s o) r (λ r. Room (r .told .session)) (λ j. h) (λ _. f)
+
+begun-room : (s : Session) (step : Float) (a : Attempt) (j : List Float) → Room (begun s step a j)
+unfolding begun fresh
+begun-room s step a j = length-replicate 320 zero+
+
+answered-room : (s : Session) (x : List Float) → Room s → Room (answered s x)
+unfolding answered
+answered-room s x h = length-stores _ (16 * s .count) 16 (s .answers) ∙ h
+
+performed-room : (c : Call) (s : Session) → Room s → Room (perform c s .told .session)
+unfolding perform beginCall supplyCall acceptCall dropCall firstStepCall
+performed-room (begin step w j o) s h = lent-room _ s o _ h (shown-room s _ o _ h (begun-room s step (attemptOf w) j))
+performed-room (supply x o) s h = lent-room _ s o _ h (shown-room s _ o _ h (answered-room s x h))
+performed-room (accept f) s h = told-room _ s _ h (settled-room s f _ h)
+performed-room drop s h = told-room _ s _ h (unfold rested in opened-room _)
+performed-room (firstStep largest) s h = told-room _ s _ h h
+
+-- ---- runs
+
+-- a call is accepted, or leaves the session as it was
+pub kept-or-accepted : (c : Call) (s : Session) → (number (perform c s .told .answer) ≡ 0) ⊎ (perform c s .told .session ≡ s)
+kept-or-accepted c s = go (ℕ-discrete (number (perform c s .told .answer)) 0)
+  where
+    same : (c : Call) → (number (perform c s .told .answer) ≡ 0 → ⊥) → perform c s .told .session ≡ s
+    same (begin step w j o) n = unfold perform Unchanged in refusals .begin s step w j o n .0
+    same (supply x o) n = unfold perform Unchanged in refusals .supply s x o n .0
+    same (accept f) n = unfold perform Kept in refusals .accept s f n
+    same drop n = unfold perform Kept in refusals .drop s n
+    same (firstStep largest) n = unfold perform Kept in refusals .firstStep s largest n
+
+    go : Dec (number (perform c s .told .answer) ≡ 0) → (number (perform c s .told .answer) ≡ 0) ⊎ (perform c s .told .session ≡ s)
+    go (yes e) = inl e
+    go (no n) = inr (same c n)
+
+pub after-good : (cs : List Call) (s : Session) → TypedCalls cs → Room s → Good s → Good (after s cs)
+unfolding after TypedCalls
+after-good [] s t h g = g
+after-good (c ∷ cs) s t h g =
+    after-good cs (perform c s .told .session) (t .1) (performed-room c s h)
+    (elim (kept-or-accepted c s) [ inl e ↦ performed-good c s (t .0) h e | inr e ↦ subst Good (sym e) g ])
+
+open-room : (r : Run) → Room (openCall r .session)
+unfolding openCall
+open-room r = told-room _ nothing _ (unfold nothing in opened-room _) (opened-room r)
+
+-- ---- THE CLAIM
+pub closes : Closes
+closes = record {
+  opens = λ r e. good-closed (open-good r e);
+  call = λ c s t room e. good-closed (performed-good c s t room e);
+  run = λ r cs e t. good-closed (after-good cs (openCall r .session) t (open-room r) (open-good r e));
+}

@@ -1,0 +1,88 @@
+-- `session::norm_fault` meets its contract. Assumes nothing.
+use borrow.Author.Needs.{needs}
+use Rattle.session.specs.Session.{sizeOk}
+use Rattle.session.specs.Tests.{fault}
+use Rattle.session.specs.Bare.{normTests}
+use Rattle.session.proofs.norm_fault.Statement.{statement}
+use Rattle.session.proofs.norm_fault.Tie as tie
+
+pub norm-fault-spec : {M : Type 1} → statement M
+unfolding normTests sizeOk fault
+norm-fault-spec =
+    tie.close
+    (tie.spec
+    (λ c. search needs)
+    (λ c κs. search needs)
+    (λ c. search needs)
+    (λ c κs. search needs)
+    (λ c. search needs)
+    (λ c κs. search needs)
+    (λ c κs. search needs)
+    (λ c κs. search needs)
+    (λ c. search needs)
+    (λ c κs. search needs)
+    (λ c. search needs)
+    (λ c κs. search needs)
+    (λ c. search needs)
+    (λ c κs. search needs)
+    (λ c.
+    let c1 = c .before in
+    let c3 = c1 .before .before in
+    let c5 = c3 .before .before in
+    let c7 = c5 .before .before in
+    let c8 = c7 .before in
+    let c9 = c8 .before in
+    let c10 = c9 .before in
+    let c11 = c10 .before in
+    let c13 = c11 .before .before in
+    let c15 = c13 .before .before in
+    rw (
+      ← (c15 .clear .ensures),
+      ← (c13 .clear2 .ensures),
+      ← (c11 .clear3 .ensures),
+      c10 .if1 .taken,
+      ← (c9 .positive .ensures),
+      ← (c8 .positive2 .ensures),
+      c7 .if2 .taken,
+      ← (c5 .all-finite .ensures),
+      ← (c3 .all-finite2 .ensures),
+      ← (c1 .all-finite3 .ensures),
+      c .if3 .taken,
+    ))
+    (λ c.
+    let c1 = c .before in
+    let c3 = c1 .before .before in
+    let c5 = c3 .before .before in
+    let c7 = c5 .before .before in
+    let c8 = c7 .before in
+    let c9 = c8 .before in
+    let c10 = c9 .before in
+    let c11 = c10 .before in
+    let c13 = c11 .before .before in
+    let c15 = c13 .before .before in
+    rw (
+      ← (c15 .clear .ensures),
+      ← (c13 .clear2 .ensures),
+      ← (c11 .clear3 .ensures),
+      c10 .if1 .taken,
+      ← (c9 .positive .ensures),
+      ← (c8 .positive2 .ensures),
+      c7 .if2 .taken,
+      ← (c5 .all-finite .ensures),
+      ← (c3 .all-finite2 .ensures),
+      ← (c1 .all-finite3 .ensures),
+      c .if3 .left,
+    ))
+    (λ c.
+    let c1 = c .before in
+    let c2 = c1 .before in
+    let c3 = c2 .before in
+    let c4 = c3 .before in
+    let c6 = c4 .before .before in
+    let c8 = c6 .before .before in
+    rw (← (c8 .clear .ensures), ← (c6 .clear2 .ensures), ← (c4 .clear3 .ensures), c3 .if1 .taken, ← (c2 .positive .ensures), ← (c1 .positive2 .ensures), c .if2 .left))
+    (λ c.
+    let c1 = c .before in
+    let c3 = c1 .before .before in
+    let c5 = c3 .before .before in
+    rw (← (c5 .clear .ensures), ← (c3 .clear2 .ensures), ← (c1 .clear3 .ensures), c .if1 .left)))

@@ -1,0 +1,116 @@
+-- What follows from the definitions of the calls: counts, closed sessions, drops, the first step and the error norms. Definitions only.
+use Prim.Native.Nat.{ℕ, _<_}
+use mathlib.Core.Path.{_≡_}
+use mathlib.Core.Bool.{false, cond}
+use mathlib.Core.List.{List, [], _∷_}
+use lib.Dec.{T}
+use lib.Ieee.{Float, binary64, fits, isNan}
+use lib.ListN.{length}
+use Rattle.loops.specs.Loop.{_!_}
+use Rattle.methods.specs.Step.{asking}
+use Rattle.engine.specs.Claims.{Between}
+use Rattle.session.specs.declared.Session.{Session}
+use Rattle.session.specs.declared.Told.{Told}
+use Rattle.session.specs.declared.Answer.{Answer}
+use Rattle.session.specs.declared.Answer.the-variants.{Ask, Ready, Resting, FirstStep, Filled, Norm, Refused}
+use Rattle.session.specs.declared.Wish.{Wish}
+use Rattle.session.specs.declared.Phase.the-variants.{Rest, Waiting}
+use Rattle.session.specs.declared.Wants.{Wants}
+use Rattle.session.specs.declared.Wants.the-variants.{Any, Only}
+use Rattle.session.specs.Tests.{fault}
+use Rattle.session.specs.Values.{number}
+use Rattle.session.specs.Session.{Run, wantedBy, good7, sessionTests, progress}
+use Rattle.session.specs.Calls.{tell, nothing, openCall, beginCall, supplyCall, dropCall, firstStepCall}
+use Rattle.session.specs.Bare.{normCall}
+use Rattle.session.specs.Runs.{Call, begin, supply, accept, drop, firstStep, perform, after}
+
+-- ---- sessions of the code's types: arrays of their lengths, and doubles in them
+
+pub record Doubles (size : ℕ) (x : List Float) : Type 0 where
+  pub places : length x ≡ size
+  pub fit : (i : ℕ) → T (fits binary64 (x ! i))
+
+pub record Typed (s : Session) : Type 0 where
+  pub absolute : T (fits binary64 (s .absolute))
+  pub step : T (fits binary64 (s .step))
+  pub state : length (s .state) ≡ 16
+  pub jacobian : Doubles 256 (s .jacobian)
+  pub answers : Doubles 320 (s .answers)
+
+-- a supplied answer has sixteen places
+unfoldable pub TypedCall : Call → Type 0
+TypedCall (begin step wish jacobian out) = Unit
+TypedCall (supply answer out) = length answer ≡ 16
+TypedCall (accept derivative) = Unit
+TypedCall drop = Unit
+TypedCall (firstStep largest) = Unit
+
+unfoldable pub TypedCalls : List Call → Type 0
+TypedCalls [] = Unit
+TypedCalls (c ∷ cs) = TypedCall c × TypedCalls cs
+
+-- ---- counts: Ask's session has fewer answers than its attempt wants, Ready's exactly as many
+
+unfoldable pub CountedBy : Answer → ℕ → ℕ → Type 0
+CountedBy (Ask time) count most = count < most
+CountedBy (Ready norm rhs jacobians) count most = count ≡ most
+CountedBy Resting count most = Unit
+CountedBy (FirstStep step) count most = Unit
+CountedBy Filled count most = Unit
+CountedBy (Norm norm) count most = Unit
+CountedBy (Refused k) count most = Unit
+
+unfoldable pub Counted : Told → Type 0
+Counted r = CountedBy (r .answer) (r .session .count) (wantedBy (r .session))
+
+pub record Counts : Type 0 where
+  pub begin : (s : Session) (step : Float) (wish : Wish) (jacobian out : List Float) → Counted (beginCall s step wish jacobian out .told)
+  pub supply : (s : Session) (answer out : List Float) → Counted (supplyCall s answer out .told)
+  -- a session that accept takes is never still asking
+  pub accept : (s : Session) → fault (sessionTests (Only Waiting) s) ≡ 0 → (x : List Float) (time : Float) → progress s ≡ asking x time → ⊥
+
+-- ---- closed: a session that an accepted call returns is refused by nothing but 7
+
+unfoldable pub Closed : Session → Type 0
+Closed s = (wants : Wants) → fault (sessionTests wants s) ≡ cond (good7 wants s) 0 7
+
+pub record Closes : Type 0 where
+  pub opens : (r : Run) → number (openCall r .answer) ≡ 0 → Closed (openCall r .session)
+  pub call : (c : Call) (s : Session) → TypedCall c → length (s .answers) ≡ 320 → number (perform c s .told .answer) ≡ 0 → Closed (perform c s .told .session)
+  -- so no call of a run from an accepted opening on meets 1 to 5 because of the session
+  pub run : (r : Run) (cs : List Call) → number (openCall r .answer) ≡ 0 → TypedCalls cs → Closed (after (openCall r .session) cs)
+
+-- ---- drops, and the session of a refused open
+
+-- one supply for each answer and lent output
+unfoldable pub supplies : List (List Float × List Float) → List Call
+supplies [] = []
+supplies ((answer, out) ∷ rest) = supply answer out ∷ supplies rest
+
+pub record Drops : Type 0 where
+  -- at rest: the session as it was
+  pub atRest : (s : Session) → Typed s → fault (sessionTests (Only Rest) s) ≡ 0 → dropCall s ≡ tell Resting s
+  -- after begin and any supplies, refused ones too: the session before begin
+  pub attempt : (s : Session) → Typed s → fault (sessionTests (Only Rest) s) ≡ 0
+      → (step : Float) (wish : Wish) (jacobian out : List Float) (answers : List (List Float × List Float)) → TypedCalls (supplies answers)
+      → dropCall (after s (begin step wish jacobian out ∷ supplies answers)) ≡ tell Resting s
+  -- every call refuses what a refused open returns by 1
+  pub nothing : (c : Call) → number (perform c nothing .told .answer) ≡ 1
+
+-- ---- the first step: no NaN, between 2 ^ -52 and the largest step
+
+unfoldable pub FirstSteps : Type 0
+FirstSteps =
+    (s : Session) (largest step : Float) → firstStepCall s largest .answer ≡ FirstStep step → Between largest step
+
+-- ---- the error norm of Ready, and the bare one: never a NaN
+
+-- for every session whose absolute tolerance is a double and whose state has 16 places, as the code's have, and whatever is handed in
+pub record Norms : Type 0 where
+  pub begin : (s : Session) (step : Float) (wish : Wish) (jacobian out : List Float) → T (fits binary64 (s .absolute)) → length (s .state) ≡ 16
+      → (norm : Float) (rhs jacobians : ℕ) → beginCall s step wish jacobian out .told .answer ≡ Ready norm rhs jacobians → isNan norm ≡ false
+  pub supply : (s : Session) (answer out : List Float) → T (fits binary64 (s .absolute)) → length (s .state) ≡ 16
+      → (norm : Float) (rhs jacobians : ℕ) → supplyCall s answer out .told .answer ≡ Ready norm rhs jacobians → isNan norm ≡ false
+  pub bare : (n : ℕ) (relative absolute : Float) (error state candidate : List Float)
+      → T (fits binary64 absolute) → length error ≡ 16 → length state ≡ 16 → length candidate ≡ 16
+      → (norm : Float) → normCall n relative absolute error state candidate ≡ Norm norm → isNan norm ≡ false
