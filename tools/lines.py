@@ -322,15 +322,17 @@ class Writer:
         if path:
             uses.append('use mathlib.Core.Path.{' + ', '.join(path) + '}')
         uses += plan['uses']
+        own = self.crate == 'methods'
+        specs, proofs = ('Rattle.methods.specs', 'Rattle.methods.proofs') if own else ('Rattle.methods.specs', 'Rattle.methods.proofs')
         vectors = [w for w in ('add', 'subtract', 'axpy', 'scale') if w in words]
         if vectors:
-            uses.append('use Rattle.methods.specs.Vectors.{' + ', '.join(vectors) + '}')
+            uses.append(f'use {specs}.Vectors.{{' + ', '.join(vectors) + '}')
         laws = [w for w in LINES if w in words]
         if laws:
-            uses.append('use Rattle.methods.proofs.Lines.{' + ', '.join(laws) + '}')
+            uses.append(f'use {proofs}.Lines.{{' + ', '.join(laws) + '}')
         laws = [w for w in REQUIRES if w in words]
         if laws:
-            uses.append('use Rattle.methods.proofs.Requires.{' + ', '.join(laws) + '}')
+            uses.append(f'use {proofs}.Requires.{{' + ', '.join(laws) + '}')
         head = f'-- `{self.crate}::{self.name}`: {plan["about"]}. Assumes nothing.\n' + '\n'.join(uses)
         body = body.lstrip('\n')
         head += f'\nuse Rattle.{self.crate}.proofs.{self.name}.Statement.{{statement}}\nuse Rattle.{self.crate}.proofs.{self.name}.Tie as tie\n\n'

@@ -147,7 +147,19 @@ pub fn epirk4s3_a(p: Point, a: &[f64], answers: &[f64], first: usize, count: usi
     let k2 = phi_term(a, c2 * h, 1, c2 * h, f0, n);
     let k3 = phi_term(a, c3 * h, 1, c3 * h, f0, n);
     epirk4s3(
-        p, a, answers, first, count, k2, k3, c2, c3, 32.0, -13.5, -144.0, 81.0,
+        p,
+        a,
+        answers,
+        first,
+        count,
+        k2,
+        k3,
+        c2,
+        c3,
+        32.0,
+        -13.5,
+        -144.0,
+        81.0,
     )
 }
 
@@ -163,7 +175,19 @@ pub fn epirk4s3_b(p: Point, a: &[f64], answers: &[f64], first: usize, count: usi
     let k2 = phi_term(a, c2 * h, 2, 8.0 * float::powi2(c2 * h) / (3.0 * h), f0, n);
     let k3 = phi_term(a, c3 * h, 2, 16.0 * float::powi2(c3 * h) / (9.0 * h), f0, n);
     epirk4s3(
-        p, a, answers, first, count, k2, k3, c2, c3, 54.0, -16.0, -324.0, 144.0,
+        p,
+        a,
+        answers,
+        first,
+        count,
+        k2,
+        k3,
+        c2,
+        c3,
+        54.0,
+        -16.0,
+        -324.0,
+        144.0,
     )
 }
 
@@ -194,7 +218,20 @@ fn epirk4s3(
     let u2 = add(u, v2, n);
     let u3 = add(u, v3, n);
     epirk4s3_2(
-        p, a, answers, first, count, tally, u2, u3, c2, c3, r2c, r3c, q2c, q3c,
+        p,
+        a,
+        answers,
+        first,
+        count,
+        tally,
+        u2,
+        u3,
+        c2,
+        c3,
+        r2c,
+        r3c,
+        q2c,
+        q3c,
     )
 }
 
@@ -228,7 +265,19 @@ fn epirk4s3_2(
     }
     let r2 = remainder(a, u2, u, f0, answers, first, n);
     epirk4s3_3(
-        p, a, answers, first, count, tally, r2, u3, c3, r2c, r3c, q2c, q3c,
+        p,
+        a,
+        answers,
+        first,
+        count,
+        tally,
+        r2,
+        u3,
+        c3,
+        r2c,
+        r3c,
+        q2c,
+        q3c,
     )
 }
 
@@ -383,7 +432,22 @@ pub fn epirk5p1(p: Point, a: &[f64], answers: &[f64], first: usize, count: usize
     let b32 = 0.0;
     let b33 = 9.358546505792617;
     epirk5p(
-        p, a, answers, first, count, g11, g21, g32, g33, a22, b2, b31, b32, b33, 1, false,
+        p,
+        a,
+        answers,
+        first,
+        count,
+        g11,
+        g21,
+        g32,
+        g33,
+        a22,
+        b2,
+        b31,
+        b32,
+        b33,
+        1,
+        false,
     )
 }
 
@@ -401,7 +465,22 @@ pub fn epirk5p2(p: Point, a: &[f64], answers: &[f64], first: usize, count: usize
     let b32 = -0.16102803317280918;
     let b33 = 5.267263316169096;
     epirk5p(
-        p, a, answers, first, count, g11, g21, g32, g33, a22, b2, b31, b32, b33, 2, true,
+        p,
+        a,
+        answers,
+        first,
+        count,
+        g11,
+        g21,
+        g32,
+        g33,
+        a22,
+        b2,
+        b31,
+        b32,
+        b33,
+        2,
+        true,
     )
 }
 
@@ -445,7 +524,8 @@ fn epirk5p(
 ) -> Out
     requires { ⌜ Given (p .n) (now a) (now answers) first ⌝ }
     requires { ⌜ (1 ≤ «second_order») × («second_order» ≤ 4) ⌝ }
-    ensures { λ r. ⌜ stand r ≡ replay (p .n) (epirk5p (p .n) (now (a .entry)) (p .state) (p .time) (p .step) (p .f0) g11 g21 g32 g33 a22 b2 b31 b32 b33 «second_order» «variant_2») count first (now (answers .entry)) ⌝ }
+    ensures { λ r. ⌜ stand r ≡ replay (p .n) (epirk5p (p .n) (now (a .entry)) (p .state) (p .time) (p .step) (p .f0)
+        g11 g21 g32 g33 a22 b2 b31 b32 b33 «second_order» «variant_2») count first (now (answers .entry)) ⌝ }
 {
     let n = p.n;
     let h = p.step;
@@ -460,8 +540,26 @@ fn epirk5p(
     let v31 = k31.v;
     let u1 = add(u, v11, n);
     epirk5p_1(
-        p, a, answers, first, count, tally, v21, v31, u1, g11, g21, g32, g33, a22, b2, b31, b32,
-        b33, second_order, variant_2,
+        p,
+        a,
+        answers,
+        first,
+        count,
+        tally,
+        v21,
+        v31,
+        u1,
+        g11,
+        g21,
+        g32,
+        g33,
+        a22,
+        b2,
+        b31,
+        b32,
+        b33,
+        second_order,
+        variant_2,
     )
 }
 
@@ -489,7 +587,8 @@ fn epirk5p_1(
 ) -> Out
     requires { ⌜ Given (p .n) (now a) (now answers) first ⌝ }
     requires { ⌜ (1 ≤ «second_order») × («second_order» ≤ 4) ⌝ }
-    ensures { λ r. ⌜ stand r ≡ under tally (replay (p .n) (epirk5p·1 p (now (a .entry)) k21 k31 u1 g11 g21 g32 g33 a22 b2 b31 b32 b33 «second_order» «variant_2») count first (now (answers .entry))) ⌝ }
+    ensures { λ r. ⌜ stand r ≡ under tally (replay (p .n) (epirk5p·1 p (now (a .entry)) k21 k31 u1
+        g11 g21 g32 g33 a22 b2 b31 b32 b33 «second_order» «variant_2») count first (now (answers .entry))) ⌝ }
 {
     let n = p.n;
     let t = p.time;
@@ -507,7 +606,23 @@ fn epirk5p_1(
     let u2 = axpy(add(u, k21, n), a22 / divisor(variant_2, h), v2, n);
     let tally = joined(tally, k2.tally);
     epirk5p_2(
-        p, a, answers, first, count, tally, k31, r1, v2, u2, g21, g33, b2, b31, b32, b33, variant_2,
+        p,
+        a,
+        answers,
+        first,
+        count,
+        tally,
+        k31,
+        r1,
+        v2,
+        u2,
+        g21,
+        g33,
+        b2,
+        b31,
+        b32,
+        b33,
+        variant_2,
     )
 }
 
@@ -563,7 +678,8 @@ fn epirk5p_end(
     variant_2: bool,
 ) -> Out
     requires { ⌜ Sized (p .n) (now a) ⌝ }
-    ensures { λ r. ⌜ ((count first : ℕ) (answers : List Float) → stand r ≡ under tally (replay (p .n) (epirk5pEnd (p .n) (now (a .entry)) (p .step) g33 b31 b32 b33 «variant_2» dr output) count first answers)) ⌝ }
+    ensures { λ r. ⌜ ((count first : ℕ) (answers : List Float) → stand r ≡ under tally (replay (p .n)
+        (epirk5pEnd (p .n) (now (a .entry)) (p .step) g33 b31 b32 b33 «variant_2» dr output) count first answers)) ⌝ }
 {
     let n = p.n;
     let h = p.step;

@@ -57,15 +57,7 @@ pub fn norsett_euler(a: &[f64], u: Vector, f0: Vector, h: f64, n: usize) -> Out
     ended(s.tally, x, [0.0; PLACES])
 }
 
-pub fn etd2(
-    a: &[f64],
-    u: Vector,
-    h: f64,
-    g: Vector,
-    held: bool,
-    previous: Vector,
-    n: usize,
-) -> Out
+pub fn etd2(a: &[f64], u: Vector, h: f64, g: Vector, held: bool, previous: Vector, n: usize) -> Out
     requires { ⌜ Sized n (now a) ⌝ }
     ensures { λ r. ⌜ ((count first : ℕ) (answers : List Float) → stand r ≡ replay n (etd2 n (now (a .entry)) u h g held previous) count first answers) ⌝ }
 {
@@ -83,14 +75,7 @@ pub fn etd2(
 
 // ---- etdrk2
 
-pub fn etdrk2(
-    p: Point,
-    a: &[f64],
-    g0: Vector,
-    answers: &[f64],
-    first: usize,
-    count: usize,
-) -> Out
+pub fn etdrk2(p: Point, a: &[f64], g0: Vector, answers: &[f64], first: usize, count: usize) -> Out
     requires { ⌜ Given (p .n) (now a) (now answers) first ⌝ }
     ensures { λ r. ⌜ stand r ≡ replay (p .n) (etdrk2 (p .n) (now (a .entry)) (p .state) (p .time) (p .step) (p .f0) g0) count first (now (answers .entry)) ⌝ }
 {
@@ -133,14 +118,7 @@ fn etdrk2_2(
 
 // ---- etdrk3
 
-pub fn etdrk3(
-    p: Point,
-    a: &[f64],
-    au: Vector,
-    answers: &[f64],
-    first: usize,
-    count: usize,
-) -> Out
+pub fn etdrk3(p: Point, a: &[f64], au: Vector, answers: &[f64], first: usize, count: usize) -> Out
     requires { ⌜ Given (p .n) (now a) (now answers) first ⌝ }
     ensures { λ r. ⌜ stand r ≡ replay (p .n) (etdrk3 (p .n) (now (a .entry)) (p .state) (p .time) (p .step) (p .f0) au) count first (now (answers .entry)) ⌝ }
 {
@@ -230,14 +208,7 @@ fn etdrk3_3(
 
 // ---- etdrk4
 
-pub fn etdrk4(
-    p: Point,
-    a: &[f64],
-    au: Vector,
-    answers: &[f64],
-    first: usize,
-    count: usize,
-) -> Out
+pub fn etdrk4(p: Point, a: &[f64], au: Vector, answers: &[f64], first: usize, count: usize) -> Out
     requires { ⌜ Given (p .n) (now a) (now answers) first ⌝ }
     ensures { λ r. ⌜ stand r ≡ replay (p .n) (etdrk4 (p .n) (now (a .entry)) (p .state) (p .time) (p .step) (p .f0) au) count first (now (answers .entry)) ⌝ }
 {
@@ -498,7 +469,20 @@ fn hoch_ost4_3(
     let u4 = add(u, scale(i4, h, n), n);
     let tally = joined(tally, k.tally);
     hoch_ost4_4(
-        p, a, au, answers, first, count, tally, p1h, p2h, p1, p2, f2, f3, u4,
+        p,
+        a,
+        au,
+        answers,
+        first,
+        count,
+        tally,
+        p1h,
+        p2h,
+        p1,
+        p2,
+        f2,
+        f3,
+        u4,
     )
 }
 
@@ -578,7 +562,20 @@ fn hoch_ost4_4(
     let u5 = add(u, scale(i5, h, n), n);
     let tally = joined(tally, s5.tally);
     hoch_ost4_5(
-        p, a, au, answers, first, count, tally, p1, p2, p3, f4, g2, g3, u5,
+        p,
+        a,
+        au,
+        answers,
+        first,
+        count,
+        tally,
+        p1,
+        p2,
+        p3,
+        f4,
+        g2,
+        g3,
+        u5,
     )
 }
 

@@ -19,12 +19,16 @@ ghost use Rattle.methods.specs.Parts.{phiInto, mayAsk, mayEnd};
 
 // The places of a vector, the answers that are kept, and the room that these take.
 pub const PLACES: usize = 16;
+
 pub const ANSWERS: usize = 20;
+
 pub const ROOM: usize = ANSWERS * PLACES;
 
 // The schemes that are named elsewhere: one remembers, two have an error vector.
 pub const ETD2: u8 = 13;
+
 pub const EXPRB32: u8 = 14;
+
 pub const EXPRB43: u8 = 15;
 
 // A vector, +0.0 past the dimension.
@@ -132,15 +136,7 @@ pub fn combine2(c1: f64, x1: Vector, c2: f64, x2: Vector, n: usize) -> Vector
 }
 
 // combine of three terms.
-pub fn combine3(
-    c1: f64,
-    x1: Vector,
-    c2: f64,
-    x2: Vector,
-    c3: f64,
-    x3: Vector,
-    n: usize,
-) -> Vector
+pub fn combine3(c1: f64, x1: Vector, c2: f64, x2: Vector, c3: f64, x3: Vector, n: usize) -> Vector
     requires { ⌜ n ≤ 16 ⌝ }
     ensures { λ r. ⌜ r ≡ combine n ((c1, x1) ∷ (c2, x2) ∷ (c3, x3) ∷ []) ⌝ }
 {
@@ -262,21 +258,57 @@ pub fn phi_action(a: &[f64], scale_a: f64, order: usize, input: Vector, n: usize
     if count <= 16 {
         let mut m = [0.0; 16];
         let mut e = [0.0; 16];
-        return phi_into(a, scale_a, input, n, &mut m[..count], &mut e[..count], size, column);
+        return phi_into(
+            a,
+            scale_a,
+            input,
+            n,
+            &mut m[..count],
+            &mut e[..count],
+            size,
+            column,
+        );
     }
     if count <= 64 {
         let mut m = [0.0; 64];
         let mut e = [0.0; 64];
-        return phi_into(a, scale_a, input, n, &mut m[..count], &mut e[..count], size, column);
+        return phi_into(
+            a,
+            scale_a,
+            input,
+            n,
+            &mut m[..count],
+            &mut e[..count],
+            size,
+            column,
+        );
     }
     if count <= 144 {
         let mut m = [0.0; 144];
         let mut e = [0.0; 144];
-        return phi_into(a, scale_a, input, n, &mut m[..count], &mut e[..count], size, column);
+        return phi_into(
+            a,
+            scale_a,
+            input,
+            n,
+            &mut m[..count],
+            &mut e[..count],
+            size,
+            column,
+        );
     }
     let mut m = [0.0; 400];
     let mut e = [0.0; 400];
-    phi_into(a, scale_a, input, n, &mut m[..count], &mut e[..count], size, column)
+    phi_into(
+        a,
+        scale_a,
+        input,
+        n,
+        &mut m[..count],
+        &mut e[..count],
+        size,
+        column,
+    )
 }
 
 pub fn phi_term(
@@ -361,7 +393,10 @@ pub fn added(u: Vector, k: Action, n: usize) -> Action
     ensures { λ r. ⌜ r ≡ over (add n u) k ⌝ }
 {
     let v = k.v;
-    Action { v: add(u, v, n), ..k }
+    Action {
+        v: add(u, v, n),
+        ..k
+    }
 }
 
 // x plus factor times a vector.
@@ -370,7 +405,10 @@ pub fn after(x: Vector, factor: f64, k: Action, n: usize) -> Action
     ensures { λ r. ⌜ r ≡ over (axpy n x factor) k ⌝ }
 {
     let v = k.v;
-    Action { v: axpy(x, factor, v, n), ..k }
+    Action {
+        v: axpy(x, factor, v, n),
+        ..k
+    }
 }
 
 // factor times a vector.
@@ -379,7 +417,10 @@ pub fn scaled(k: Action, factor: f64, n: usize) -> Action
     ensures { λ r. ⌜ r ≡ over (λ x. scale n x factor) k ⌝ }
 {
     let v = k.v;
-    Action { v: scale(v, factor, n), ..k }
+    Action {
+        v: scale(v, factor, n),
+        ..k
+    }
 }
 
 // sum plus factor times k.

@@ -30,14 +30,7 @@ ghost use Rattle.rosenbrock.specs.Stages.{exprb32·2, exprb43·2, exprb4
 
 // ---- exprb32
 
-pub fn exprb32(
-    p: Point,
-    a: &[f64],
-    au: Vector,
-    answers: &[f64],
-    first: usize,
-    count: usize,
-) -> Out
+pub fn exprb32(p: Point, a: &[f64], au: Vector, answers: &[f64], first: usize, count: usize) -> Out
     requires { ⌜ Given (p .n) (now a) (now answers) first ⌝ }
     requires { ⌜ au ≡ matVec (p .n) (now a) (p .state) ⌝ }
     ensures { λ r. ⌜ stand r ≡ replay (p .n) (exprb32 (p .n) (now (a .entry)) (p .state) (p .time) (p .step) (p .f0)) count first (now (answers .entry)) ⌝ }
@@ -91,14 +84,7 @@ fn exprb32_2(
 
 // ---- exprb43
 
-pub fn exprb43(
-    p: Point,
-    a: &[f64],
-    au: Vector,
-    answers: &[f64],
-    first: usize,
-    count: usize,
-) -> Out
+pub fn exprb43(p: Point, a: &[f64], au: Vector, answers: &[f64], first: usize, count: usize) -> Out
     requires { ⌜ Given (p .n) (now a) (now answers) first ⌝ }
     ensures { λ r. ⌜ stand r ≡ replay (p .n) (exprb43 (p .n) (now (a .entry)) (p .state) (p .time) (p .step) (p .f0) au) count first (now (answers .entry)) ⌝ }
 {
@@ -110,10 +96,7 @@ pub fn exprb43(
     let k11 = phi_action(a, h, 1, f1, n);
     let k13 = phi_action(a, h, 3, f1, n);
     let k14 = phi_action(a, h, 4, f1, n);
-    let tally = joined(
-        joined(joined(k1h.tally, k11.tally), k13.tally),
-        k14.tally,
-    );
+    let tally = joined(joined(joined(k1h.tally, k11.tally), k13.tally), k14.tally);
     let w1h = k1h.v;
     let w11 = k11.v;
     let w13 = k13.v;
@@ -156,7 +139,19 @@ fn exprb43_2(
     let w24 = k24.v;
     let u3 = add(u, scale(w21, h, n), n);
     exprb43_3(
-        p, a, au, answers, first, count, tally, w11, w13, w14, w23, w24, u3,
+        p,
+        a,
+        au,
+        answers,
+        first,
+        count,
+        tally,
+        w11,
+        w13,
+        w14,
+        w23,
+        w24,
+        u3,
     )
 }
 

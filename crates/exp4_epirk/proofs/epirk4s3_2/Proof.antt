@@ -39,6 +39,6 @@ epirk4s3-2-spec =
     returns
     (λ c κs. answer-0 (start-f0 (c .before .before) .pre))
     (λ c κs.
-        let at-if1 = c .before in
-        (start-f0 (c .before .before .before) .pre, omega (arith, at-if1 .if1 .left)))
+    let at-if1 = c .before in
+    (start-f0 (c .before .before .before) .pre, omega (arith, at-if1 .if1 .left)))
     returns-2)

@@ -62,7 +62,7 @@ epirk5p-1-spec =
     (λ c κs. start-divisor c .pre .0 .sized .small)
     (λ c κs. tt)
     (λ c κs.
-        let at-v2 = c .before .before .before .before in
-        let at-if1 = at-v2 .before .before .before .before in
-        (start-divisor (c .before .before) .pre .0, omega (arith, at-if1 .if1 .left)))
+    let at-v2 = c .before .before .before .before in
+    let at-if1 = at-v2 .before .before .before .before in
+    (start-divisor (c .before .before) .pre .0, omega (arith, at-if1 .if1 .left)))
     returns-2)

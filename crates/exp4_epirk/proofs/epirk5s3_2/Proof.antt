@@ -71,8 +71,8 @@ epirk5s3-2-spec =
     (λ c κs. start-powi3 (c .before .before) .pre .sized .small)
     (λ c κs. tt)
     (λ c κs.
-        let at-powi3 = c .before .before .before .before in
-        let at-phi-term = at-powi3 .before .before .before .before in
-        let at-if1 = at-phi-term .before .before in
-        (start-joined c .pre, omega (arith, at-if1 .if1 .left)))
+    let at-powi3 = c .before .before .before .before in
+    let at-phi-term = at-powi3 .before .before .before .before in
+    let at-if1 = at-phi-term .before .before in
+    (start-joined c .pre, omega (arith, at-if1 .if1 .left)))
     returns-2)

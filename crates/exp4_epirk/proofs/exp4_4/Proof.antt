@@ -87,9 +87,9 @@ exp4-4-spec =
     (λ c κs. start-axpy3 c .pre .sized .small)
     (λ c κs. start-axpy3 (c .before) .pre .sized .small)
     (λ c κs.
-        let at-axpy = c .before .before .before .before in
-        let at-v20 = at-axpy .before .before .before .before in
-        let at-phi-term3 = at-v20 .before .before .before .before in
-        let at-if1 = at-phi-term3 .before .before .before .before in
-        (start-axpy3 (c .before .before) .pre, omega (arith, at-if1 .if1 .left)))
+    let at-axpy = c .before .before .before .before in
+    let at-v20 = at-axpy .before .before .before .before in
+    let at-phi-term3 = at-v20 .before .before .before .before in
+    let at-if1 = at-phi-term3 .before .before .before .before in
+    (start-axpy3 (c .before .before) .pre, omega (arith, at-if1 .if1 .left)))
     returns-2)

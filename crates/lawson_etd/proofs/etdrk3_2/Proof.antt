@@ -59,7 +59,7 @@ etdrk3-2-spec =
     (λ c κs. start-scale (c .before .before) .pre .sized .small)
     (λ c κs. tt)
     (λ c κs.
-        let at-axpy = c .before .before .before .before in
-        let at-if1 = at-axpy .before .before .before in
-        (start-u3 (c .before) .pre, omega (arith, at-if1 .if1 .left)))
+    let at-axpy = c .before .before .before .before in
+    let at-if1 = at-axpy .before .before .before in
+    (start-u3 (c .before) .pre, omega (arith, at-if1 .if1 .left)))
     returns-2)

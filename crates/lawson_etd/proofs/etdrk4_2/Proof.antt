@@ -50,7 +50,7 @@ etdrk4-2-spec =
     (λ c κs. start-phi-term c .pre .sized .small)
     (λ c κs. tt)
     (λ c κs.
-        let at-shifted-stage = c .before .before .before .before in
-        let at-if1 = at-shifted-stage .before in
-        (start-phi-term (c .before .before .before) .pre, omega (arith, at-if1 .if1 .left)))
+    let at-shifted-stage = c .before .before .before .before in
+    let at-if1 = at-shifted-stage .before in
+    (start-phi-term (c .before .before .before) .pre, omega (arith, at-if1 .if1 .left)))
     returns-2)

@@ -74,10 +74,10 @@ etdrk4-3-spec =
     (λ c κs. start-axpy3 (c .before) .pre .0 .sized .small)
     (λ c κs. tt)
     (λ c κs.
-        let at-axpy3 = c .before .before .before .before in
-        let at-scale = at-axpy3 .before .before .before .before in
-        let at-if1 = at-scale .before .before in
-        let at-shared-slice-known2 = at-if1 .before .before .before .before in
-        let entry = at-shared-slice-known2 .before .before in
-        (start-joined c .pre .0, omega (arith, at-if1 .if1 .left, entry .pre)))
+    let at-axpy3 = c .before .before .before .before in
+    let at-scale = at-axpy3 .before .before .before .before in
+    let at-if1 = at-scale .before .before in
+    let at-shared-slice-known2 = at-if1 .before .before .before .before in
+    let entry = at-shared-slice-known2 .before .before in
+    (start-joined c .pre .0, omega (arith, at-if1 .if1 .left, entry .pre)))
     returns-2)

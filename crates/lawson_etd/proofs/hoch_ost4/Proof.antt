@@ -36,6 +36,6 @@ hoch-ost4-spec =
     (λ c κs. start-f1 (c .before .before .before) .pre .sized .small)
     (λ c κs. start-scale c .pre .sized .small)
     (λ c κs.
-        let at-phi-term = c .before .before .before in
-        (start-scale (c .before) .pre, at-phi-term .phi-term .ensures))
+    let at-phi-term = c .before .before .before in
+    (start-scale (c .before) .pre, at-phi-term .phi-term .ensures))
     returns)

@@ -69,10 +69,10 @@ hoch-ost4-2-spec =
     (λ c κs. start-i3 (c .before) .pre .0 .sized .small)
     (λ c κs. tt)
     (λ c κs.
-        let at-add-term = c .before .before .before .before in
-        let at-phi-term = at-add-term .before .before .before in
-        let at-if1 = at-phi-term .before .before in
-        let at-shared-slice-known2 = at-if1 .before .before .before .before in
-        let entry = at-shared-slice-known2 .before .before in
-        (start-i3 (c .before .before .before) .pre .0, (omega (arith, at-if1 .if1 .left), (entry .pre .1, at-phi-term .phi-term .ensures))))
+    let at-add-term = c .before .before .before .before in
+    let at-phi-term = at-add-term .before .before .before in
+    let at-if1 = at-phi-term .before .before in
+    let at-shared-slice-known2 = at-if1 .before .before .before .before in
+    let entry = at-shared-slice-known2 .before .before in
+    (start-i3 (c .before .before .before) .pre .0, (omega (arith, at-if1 .if1 .left), (entry .pre .1, at-phi-term .phi-term .ensures))))
     returns-2)

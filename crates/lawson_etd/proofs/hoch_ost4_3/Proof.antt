@@ -76,12 +76,22 @@ hoch-ost4-3-spec =
     (λ c κs. start-add-term2 (c .before .before) .pre .0 .sized .small)
     (λ c κs. tt)
     (λ c κs.
-        let at-add-term2 = c .before .before .before .before in
-        let at-phi-term2 = at-add-term2 .before .before .before in
-        let at-phi-term = at-phi-term2 .before in
-        let at-if1 = at-phi-term .before .before in
-        let at-shared-slice-known2 = at-if1 .before .before .before .before in
-        let entry = at-shared-slice-known2 .before .before in
-        (start-joined c .pre .0, (omega (arith, at-if1 .if1 .left, entry .pre .1 .0), (entry .pre .1 .1, (at-phi-term .phi-term .ensures,
-        at-phi-term2 .phi-term2 .ensures)))))
+    let at-add-term2 = c .before .before .before .before in
+    let at-phi-term2 = at-add-term2 .before .before .before in
+    let at-phi-term = at-phi-term2 .before in
+    let at-if1 = at-phi-term .before .before in
+    let at-shared-slice-known2 = at-if1 .before .before .before .before in
+    let entry = at-shared-slice-known2 .before .before in (
+      start-joined c .pre .0,
+      (
+        omega (arith, at-if1 .if1 .left, entry .pre .1 .0),
+        (
+          entry .pre .1 .1,
+          (
+            at-phi-term .phi-term .ensures,
+            at-phi-term2 .phi-term2 .ensures,
+          ),
+        ),
+      ),
+    ))
     returns-2)

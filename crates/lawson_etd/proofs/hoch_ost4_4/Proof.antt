@@ -71,24 +71,39 @@ hoch-ost4-4-spec =
     (λ c κs. (start-phi-term (c .before) .pre .0 .sized, order-3))
     (λ c κs. start-phi-term (c .before .before) .pre .0 .sized .small)
     (λ c κs.
-        let at-phi-term3 = c .before in
-        let at-phi-term2 = at-phi-term3 .before in
-        let at-phi-term = at-phi-term2 .before in
-        let at-f1 = at-phi-term .before .before .before .before in
-        let entry = at-f1 .before .before .before .before in
-        (start-phi-term (c .before .before .before) .pre .0 .sized, ((entry .pre .1 .1 .0 .1, entry .pre .1 .1 .1 .1, at-phi-term .phi-term .ensures),
-        (at-phi-term2 .phi-term2 .ensures, at-phi-term3 .phi-term3 .ensures))))
+    let at-phi-term3 = c .before in
+    let at-phi-term2 = at-phi-term3 .before in
+    let at-phi-term = at-phi-term2 .before in
+    let at-f1 = at-phi-term .before .before .before .before in
+    let entry = at-f1 .before .before .before .before in (
+      start-phi-term (c .before .before .before) .pre .0 .sized,
+      (
+        (entry .pre .1 .1 .0 .1, entry .pre .1 .1 .1 .1, at-phi-term .phi-term .ensures),
+        (at-phi-term2 .phi-term2 .ensures, at-phi-term3 .phi-term3 .ensures),
+      ),
+    ))
     (λ c κs. start-hoch-ost4-sum (c .before) .pre .0 .sized .small)
     (λ c κs. start-hoch-ost4-sum (c .before .before) .pre .0 .sized .small)
     (λ c κs. tt)
     (λ c κs.
-        let at-hoch-ost4-sum = c .before .before .before .before in
-        let at-phi-term3 = at-hoch-ost4-sum .before .before in
-        let at-phi-term2 = at-phi-term3 .before in
-        let at-phi-term = at-phi-term2 .before in
-        let at-if1 = at-phi-term .before .before in
-        let at-shared-slice-known2 = at-if1 .before .before .before .before in
-        let entry = at-shared-slice-known2 .before .before in
-        (start-joined c .pre .0, (omega (arith, at-if1 .if1 .left, entry .pre .1 .0), ((entry .pre .1 .1 .1 .0, entry .pre .1 .1 .1 .1,
-        at-phi-term .phi-term .ensures), (at-phi-term2 .phi-term2 .ensures, at-phi-term3 .phi-term3 .ensures)))))
+    let at-hoch-ost4-sum = c .before .before .before .before in
+    let at-phi-term3 = at-hoch-ost4-sum .before .before in
+    let at-phi-term2 = at-phi-term3 .before in
+    let at-phi-term = at-phi-term2 .before in
+    let at-if1 = at-phi-term .before .before in
+    let at-shared-slice-known2 = at-if1 .before .before .before .before in
+    let entry = at-shared-slice-known2 .before .before in (
+      start-joined c .pre .0,
+      (
+        omega (arith, at-if1 .if1 .left, entry .pre .1 .0),
+        (
+          (
+            entry .pre .1 .1 .1 .0,
+            entry .pre .1 .1 .1 .1,
+            at-phi-term .phi-term .ensures,
+          ),
+          (at-phi-term2 .phi-term2 .ensures, at-phi-term3 .phi-term3 .ensures),
+        ),
+      ),
+    ))
     returns-2)

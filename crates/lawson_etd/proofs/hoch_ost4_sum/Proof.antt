@@ -33,10 +33,10 @@ returns c =
     let at-phi-term = at-a52 .before in
     let entry = at-phi-term .before .before .before in
     let e52 = a52-made _ _ _ _ _ (entry .pre .1 .0 .0) _ _ _ _ (entry .pre .1 .0 .2) (entry .pre .1 .0 .1) (at-phi-term .phi-term .ensures)
-        (at-a52 .a52 .ensures) in
+    (at-a52 .a52 .ensures) in
     let e54 = a54-made _ _ _ _ _ (entry .pre .1 .0 .0) _ _ e52 (at-a54 .a54 .ensures) in
     let g52 = a52-made _ _ _ _ _ (at-phi-term2 .phi-term2 .ensures) _ _ _ _ (entry .pre .1 .1 .1) (entry .pre .1 .1 .0) (at-phi-term3 .phi-term3 .ensures)
-        (at-a522 .a522 .ensures) in
+    (at-a522 .a522 .ensures) in
     let g54 = a54-made _ _ _ _ _ (at-phi-term2 .phi-term2 .ensures) _ _ g52 (at-a542 .a542 .ensures) in
     rw (at-more3 .more3 .ensures, at-more2 .more2 .ensures, at-more .more .ensures, at-scaled .scaled .ensures, at-a52-of .a52-of .ensures, e52, e54, g54)
     at (c .more4 .ensures)

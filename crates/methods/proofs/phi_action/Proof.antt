@@ -70,34 +70,34 @@ phi-action-spec =
     (λ c. c .before .if1 .taken)
     (λ c. sym (length-take-le _ _ (c .before .before .if1 .taken)))
     (λ c κs.
-        let at = c .before .before in
-        let entry = after-1 at in
-        (entry .pre .0, (bounds entry, (length-take-le _ _ (at .if1 .taken), length-take-le _ _ (at .if1 .taken)))))
+    let at = c .before .before in
+    let entry = after-1 at in
+    (entry .pre .0, (bounds entry, (length-take-le _ _ (at .if1 .taken), length-take-le _ _ (at .if1 .taken)))))
     returns
     (λ c. c .if2 .taken)
     (λ c. sym (length-take-le _ _ (c .before .if2 .taken)))
     (λ c. c .before .if2 .taken)
     (λ c. sym (length-take-le _ _ (c .before .before .if2 .taken)))
     (λ c κs.
-        let at = c .before .before in
-        let entry = after-2 at in
-        (entry .pre .0, (bounds entry, (length-take-le _ _ (at .if2 .taken), length-take-le _ _ (at .if2 .taken)))))
+    let at = c .before .before in
+    let entry = after-2 at in
+    (entry .pre .0, (bounds entry, (length-take-le _ _ (at .if2 .taken), length-take-le _ _ (at .if2 .taken)))))
     returns-2
     (λ c. c .if3 .taken)
     (λ c. sym (length-take-le _ _ (c .before .if3 .taken)))
     (λ c. c .before .if3 .taken)
     (λ c. sym (length-take-le _ _ (c .before .before .if3 .taken)))
     (λ c κs.
-        let at = c .before .before in
-        let entry = after-3 at in
-        (entry .pre .0, (bounds entry, (length-take-le _ _ (at .if3 .taken), length-take-le _ _ (at .if3 .taken)))))
+    let at = c .before .before in
+    let entry = after-3 at in
+    (entry .pre .0, (bounds entry, (length-take-le _ _ (at .if3 .taken), length-take-le _ _ (at .if3 .taken)))))
     returns-3
     (λ c. fits (after-4 c))
     (λ c. sym (length-take-le _ _ (fits (after-4 (c .before)))))
     (λ c. fits (after-4 (c .before)))
     (λ c. sym (length-take-le _ _ (fits (after-4 (c .before .before)))))
     (λ c κs.
-        let at = c .before .before in
-        let entry = after-4 at in
-        (entry .pre .0, (bounds entry, (length-take-le _ _ (fits (after-4 (at))), length-take-le _ _ (fits (after-4 (at)))))))
+    let at = c .before .before in
+    let entry = after-4 at in
+    (entry .pre .0, (bounds entry, (length-take-le _ _ (fits (after-4 (at))), length-take-le _ _ (fits (after-4 (at)))))))
     returns-4)

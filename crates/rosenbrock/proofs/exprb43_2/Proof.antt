@@ -72,8 +72,8 @@ exprb43-2-spec =
     (λ c κs. start-joined3 (c .before .before .before) .pre .sized .small)
     (λ c κs. start-scale c .pre .sized .small)
     (λ c κs.
-        let at-w21 = c .before .before .before .before in
-        let at-phi-action3 = at-w21 .before .before .before .before in
-        let at-if1 = at-phi-action3 .before .before .before .before in
-        (start-scale (c .before) .pre, omega (arith, at-if1 .if1 .left)))
+    let at-w21 = c .before .before .before .before in
+    let at-phi-action3 = at-w21 .before .before .before .before in
+    let at-if1 = at-phi-action3 .before .before .before .before in
+    (start-scale (c .before) .pre, omega (arith, at-if1 .if1 .left)))
     returns-2)

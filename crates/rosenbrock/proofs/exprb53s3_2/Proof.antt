@@ -64,8 +64,8 @@ exprb53s3-2-spec =
     (λ c κs. (start-powi32 c .pre .sized, order-3))
     (λ c κs. tt)
     (λ c κs.
-        let at-after = c .before .before .before .before in
-        let at-remainder = at-after .before .before .before .before in
-        let at-if1 = at-remainder .before in
-        (start-powi32 (c .before .before .before) .pre, omega (arith, at-if1 .if1 .left)))
+    let at-after = c .before .before .before .before in
+    let at-remainder = at-after .before .before .before .before in
+    let at-if1 = at-remainder .before in
+    (start-powi32 (c .before .before .before) .pre, omega (arith, at-if1 .if1 .left)))
     returns-2)

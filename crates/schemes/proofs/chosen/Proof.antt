@@ -34,54 +34,54 @@ chosen-spec =
     (λ c κs. tt)
     (λ c κs. tt)
     (λ c.
-        let at-match = c .before in
-        rw (at-match .match .keys1) (c .lawson-euler .ensures _ _ _))
+    let at-match = c .before in
+    rw (at-match .match .keys1) (c .lawson-euler .ensures _ _ _))
     (λ c.
-        let at-match = c .before in
-        rw (at-match .match .keys2) (c .norsett-euler .ensures _ _ _))
+    let at-match = c .before in
+    rw (at-match .match .keys2) (c .norsett-euler .ensures _ _ _))
     (λ c.
-        let at-match = c .before in
-        rw (at-match .match .keys3) (c .etdrk2 .ensures))
+    let at-match = c .before in
+    rw (at-match .match .keys3) (c .etdrk2 .ensures))
     (λ c.
-        let at-match = c .before in
-        rw (at-match .match .keys4) (c .etdrk3 .ensures))
+    let at-match = c .before in
+    rw (at-match .match .keys4) (c .etdrk3 .ensures))
     (λ c.
-        let at-match = c .before in
-        rw (at-match .match .keys5) (c .etdrk4 .ensures))
+    let at-match = c .before in
+    rw (at-match .match .keys5) (c .etdrk4 .ensures))
     (λ c.
-        let at-match = c .before in
-        rw (at-match .match .keys6) (c .hoch-ost4 .ensures))
+    let at-match = c .before in
+    rw (at-match .match .keys6) (c .hoch-ost4 .ensures))
     (λ c.
-        let at-match = c .before in
-        rw (at-match .match .keys7) (c .exp4 .ensures))
+    let at-match = c .before in
+    rw (at-match .match .keys7) (c .exp4 .ensures))
     (λ c.
-        let at-match = c .before in
-        rw (at-match .match .keys8) (c .epirk4s3-a .ensures))
+    let at-match = c .before in
+    rw (at-match .match .keys8) (c .epirk4s3-a .ensures))
     (λ c.
-        let at-match = c .before in
-        rw (at-match .match .keys9) (c .epirk4s3-b .ensures))
+    let at-match = c .before in
+    rw (at-match .match .keys9) (c .epirk4s3-b .ensures))
     (λ c.
-        let at-match = c .before in
-        rw (at-match .match .keys10) (c .epirk5s3 .ensures))
+    let at-match = c .before in
+    rw (at-match .match .keys10) (c .epirk5s3 .ensures))
     (λ c.
-        let at-match = c .before in
-        rw (at-match .match .keys11) (c .exprb53s3 .ensures))
+    let at-match = c .before in
+    rw (at-match .match .keys11) (c .exprb53s3 .ensures))
     (λ c.
-        let at-match = c .before in
-        rw (at-match .match .keys12) (c .epirk5p1 .ensures))
+    let at-match = c .before in
+    rw (at-match .match .keys12) (c .epirk5p1 .ensures))
     (λ c.
-        let at-match = c .before in
-        rw (at-match .match .keys13) (c .epirk5p2 .ensures))
+    let at-match = c .before in
+    rw (at-match .match .keys13) (c .epirk5p2 .ensures))
     (λ c.
-        let at-match = c .before in
-        rw (at-match .match .keys14) (c .etd2 .ensures _ _ _))
+    let at-match = c .before in
+    rw (at-match .match .keys14) (c .etd2 .ensures _ _ _))
     (λ c.
-        let at-match = c .before in
-        rw (at-match .match .keys15) (c .exprb32 .ensures))
+    let at-match = c .before in
+    rw (at-match .match .keys15) (c .exprb32 .ensures))
     (λ c.
-        let at-match = c .before in
-        rw (at-match .match .keys16) (c .exprb43 .ensures))
+    let at-match = c .before in
+    rw (at-match .match .keys16) (c .exprb43 .ensures))
     (λ c.
-        let at-unadmitted = c .before in
-        let at-match = at-unadmitted .before in
-        no-scheme _ _ _ _ _ _ _ _ _ _ (at-match .match .rest) (at-unadmitted .unadmitted .ensures) (c .ended .ensures)))
+    let at-unadmitted = c .before in
+    let at-match = at-unadmitted .before in
+    no-scheme _ _ _ _ _ _ _ _ _ _ (at-match .match .rest) (at-unadmitted .unadmitted .ensures) (c .ended .ensures)))

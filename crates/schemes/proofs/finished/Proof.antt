@@ -22,5 +22,5 @@ finished-spec =
     tie.close
     (tie.spec
     (λ c.
-        let entry = c .before .before .before in
-        cases (entry .args .o .tally .ok) (entry .args .o .kind) _ _ _))
+    let entry = c .before .before .before in
+    cases (entry .args .o .tally .ok) (entry .args .o .kind) _ _ _))

@@ -24,23 +24,34 @@ perform-step-spec =
     (λ c. search needs)
     (λ c κs. tt)
     (λ c κs.
-        let at-au = c .before .before .before .before in
-        let at-mat-vec = at-au .before .before in
-        (start-all-finite (c .before .before .before) .pre, at-mat-vec .mat-vec .ensures))
+    let at-au = c .before .before .before .before in
+    let at-mat-vec = at-au .before .before in
+    (start-all-finite (c .before .before .before) .pre, at-mat-vec .mat-vec .ensures))
     (λ c κs. tt)
     (λ c.
-        let at-chosen = c .before in
-        let at-if1 = at-chosen .before in
-        let at-all-finite2 = at-if1 .before in
-        let at-all-finite = at-all-finite2 .before .before in
-        let at-subtract = at-all-finite .before .before in
-        let at-mat-vec = at-subtract .before in
-        rw (← (at-mat-vec .mat-vec .ensures), ← (at-subtract .subtract .ensures), ← (at-all-finite .all-finite .ensures),
-        ← (at-all-finite2 .all-finite2 .ensures), at-if1 .if1 .taken, ← (at-chosen .chosen .ensures)) (c .finished .ensures))
+    let at-chosen = c .before in
+    let at-if1 = at-chosen .before in
+    let at-all-finite2 = at-if1 .before in
+    let at-all-finite = at-all-finite2 .before .before in
+    let at-subtract = at-all-finite .before .before in
+    let at-mat-vec = at-subtract .before in
+    rw (
+      ← (at-mat-vec .mat-vec .ensures),
+      ← (at-subtract .subtract .ensures),
+      ← (at-all-finite .all-finite .ensures),
+      ← (at-all-finite2 .all-finite2 .ensures),
+      at-if1 .if1 .taken,
+      ← (at-chosen .chosen .ensures),
+    ) (c .finished .ensures))
     (λ c.
-        let at-all-finite2 = c .before in
-        let at-all-finite = at-all-finite2 .before .before in
-        let at-subtract = at-all-finite .before .before in
-        let at-mat-vec = at-subtract .before in
-        rw (← (at-mat-vec .mat-vec .ensures), ← (at-subtract .subtract .ensures), ← (at-all-finite .all-finite .ensures),
-        ← (at-all-finite2 .all-finite2 .ensures), c .if1 .left)))
+    let at-all-finite2 = c .before in
+    let at-all-finite = at-all-finite2 .before .before in
+    let at-subtract = at-all-finite .before .before in
+    let at-mat-vec = at-subtract .before in
+    rw (
+      ← (at-mat-vec .mat-vec .ensures),
+      ← (at-subtract .subtract .ensures),
+      ← (at-all-finite .all-finite .ensures),
+      ← (at-all-finite2 .all-finite2 .ensures),
+      c .if1 .left,
+    )))
