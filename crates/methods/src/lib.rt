@@ -252,63 +252,27 @@ pub fn phi_action(a: &[f64], scale_a: f64, order: usize, input: Vector, n: usize
     requires { ⌜ (1 ≤ order) × (order ≤ 4) ⌝ }
     ensures { λ r. ⌜ r ≡ phiAction n (now (a .entry)) «scale_a» order input ⌝ }
 {
-    let column = n + order - 1;
-    let size = column + 1;
-    let count = size * size;
-    if count <= 16 {
+    let last = n + order - 1;
+    let size = last + 1;
+    let sq = size * size;
+    if sq <= 16 {
         let mut m = [0.0; 16];
         let mut e = [0.0; 16];
-        return phi_into(
-            a,
-            scale_a,
-            input,
-            n,
-            &mut m[..count],
-            &mut e[..count],
-            size,
-            column,
-        );
+        return phi_into(a, scale_a, input, n, &mut m[..sq], &mut e[..sq], size, last);
     }
-    if count <= 64 {
+    if sq <= 64 {
         let mut m = [0.0; 64];
         let mut e = [0.0; 64];
-        return phi_into(
-            a,
-            scale_a,
-            input,
-            n,
-            &mut m[..count],
-            &mut e[..count],
-            size,
-            column,
-        );
+        return phi_into(a, scale_a, input, n, &mut m[..sq], &mut e[..sq], size, last);
     }
-    if count <= 144 {
+    if sq <= 144 {
         let mut m = [0.0; 144];
         let mut e = [0.0; 144];
-        return phi_into(
-            a,
-            scale_a,
-            input,
-            n,
-            &mut m[..count],
-            &mut e[..count],
-            size,
-            column,
-        );
+        return phi_into(a, scale_a, input, n, &mut m[..sq], &mut e[..sq], size, last);
     }
     let mut m = [0.0; 400];
     let mut e = [0.0; 400];
-    phi_into(
-        a,
-        scale_a,
-        input,
-        n,
-        &mut m[..count],
-        &mut e[..count],
-        size,
-        column,
-    )
+    phi_into(a, scale_a, input, n, &mut m[..sq], &mut e[..sq], size, last)
 }
 
 pub fn phi_term(
