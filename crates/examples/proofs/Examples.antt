@@ -12,6 +12,7 @@ use Rattle.matrix.specs.Vector.{zeros, vec, matVec}
 use Rattle.methods.specs.Numbers.{num, minus, decimal}
 use Rattle.methods.specs.Vectors.{add as plus, subtract, scale, axpy, axpyAll, combine}
 use Rattle.methods.specs.Phi.{checked, over, augmentedEntry, augmented, phiAction, phiTerm, expAction}
+use Rattle.methods.specs.Tally.{clean, joined}
 use Rattle.methods.specs.Pass.{also, _>>=_, answer, replay}
 use Rattle.methods.specs.Schemes.{lawsonEuler, norsettEuler, etd2, exprb32}
 use Rattle.methods.specs.Step.{pass, questions, finish, performStep}
@@ -35,7 +36,7 @@ matrices = 0
 
 -- the schemes
 unfoldable schemes : ℕ
-unfolding checked over augmentedEntry augmented phiAction phiTerm expAction also _>>=_ answer replay lawsonEuler norsettEuler etd2 exprb32 pass questions finish performStep
+unfolding clean joined checked over augmentedEntry augmented phiAction phiTerm expAction also _>>=_ answer replay lawsonEuler norsettEuler etd2 exprb32 pass questions finish performStep
 schemes = 0
 
 -- the calls

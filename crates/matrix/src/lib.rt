@@ -180,9 +180,12 @@ fn row_sum(m: &[f64], i: usize, n: usize) -> f64
     ensures { λ r. ⌜ r ≡ rowSum (now (m .entry)) n i ⌝ }
 {
     let row = row_start(i, n);
+    let last = n - 1;
     let mut sum = magnitude(m[row]);
-    for column in 1..n {
+    let mut column = 1;
+    while column <= last {
         sum = sum + magnitude(m[row + column]);
+        column += 1;
     }
     sum
 }

@@ -17,13 +17,14 @@ use Rattle.evaluation.specs.Evaluation.{allFinite}
 use Rattle.matrix.specs.Matrix.{at, admitted, exponential}
 use Rattle.matrix.specs.Vector.{zeros, vec, matVec}
 use Rattle.matrix.proofs.Vectors.{length-vec}
+use Rattle.methods.specs.declared.Tally.{Tally}
 use Rattle.methods.specs.declared.Action.{Action}
 use Rattle.methods.specs.declared.Point.{Point}
 use Rattle.methods.specs.Vectors.{add, subtract, axpy}
 use Rattle.methods.specs.Phi.{checked, over, expAction}
 use Rattle.methods.specs.Pass.{Pass, ask, done, also, now, try, question, _>>=_, Stand, fails, asks, ends, answer, replay}
 use Rattle.methods.specs.Schemes.{lawsonEuler, norsettEuler, etdrk2, etdrk3, etdrk4, hochOst4, exp4, epirk4s3, epirk4s3A, epirk4s3B}
-use Rattle.methods.specs.Schemes.{epirk5s3, exprb53s3, epirk5p1, epirk5p2, etd2, exprb32, exprb43}
+use Rattle.methods.specs.Schemes.{epirk5s3, exprb53s3, epirk5p, epirk5pEnd, epirk5p1, epirk5p2, etd2, exprb32, exprb43}
 use Rattle.methods.specs.Step.{pass, questions, Progress, refused, asking, ended, finish, performStep}
 use Rattle.methods.specs.Shape.{Asks, asks-more, asks-none, Vector, Vectors, asked-vector, ended-vectors, Whole, Asked, Ended, AsksQuestions, PassVectors, AsksEarly, EndsLate}
 
@@ -205,11 +206,11 @@ module _ (n : ℕ) (a u : List Float) (t h : Float) (f g : List Float) where
   exprb53s3-s = search parts depth 60
 
   epirk5p1-s : Shaped n 2 (epirk5p1 n a u t h f)
-  unfolding epirk5p1
+  unfolding epirk5p1 epirk5p epirk5pEnd
   epirk5p1-s = search parts depth 60
 
   epirk5p2-s : Shaped n 2 (epirk5p2 n a u t h f)
-  unfolding epirk5p2
+  unfolding epirk5p2 epirk5p epirk5pEnd
   epirk5p2-s = search parts depth 60
 
   etd2-s : (held : Bool) (previous : List Float) → Shaped n 0 (etd2 n a u h f held previous)
@@ -296,9 +297,9 @@ pass-vectors k p a au nonlinear0 small = shaped-vectors small (pass-s k p a au n
 
 -- ---- how far answers lead
 
--- what a node's flag says
-abbrev flag : Bool → Bool
-flag ok = ok
+-- what a node's tally says
+abbrev flag : Tally → Bool
+flag tally = tally .ok
 
 -- the tests of a question, and of an end
 abbrev askTest : Bool → List Float → Float → Bool

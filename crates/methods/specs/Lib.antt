@@ -1,5 +1,8 @@
+pub mod Sizes
 pub mod Numbers
 pub mod Vectors
+pub mod Given
+pub mod Tally
 pub mod Phi
 pub mod Parts
 pub mod Pass

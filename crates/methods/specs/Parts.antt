@@ -1,21 +1,27 @@
 -- What the code's parts work out, where it is no line of the Rust: contracts cite it. Definitions only.
-use Prim.Native.Nat.{ℕ, _-_}
+use Prim.Native.Nat.{ℕ}
 use mathlib.Core.Bool.{_&&_}
 use mathlib.Core.List.{List}
 use lib.Ieee.{Float}
 use Rattle.loops.specs.Loop.{mat}
+use Rattle.float.specs.Arith.{finite}
+use Rattle.evaluation.specs.Evaluation.{allFinite}
 use Rattle.matrix.specs.Matrix.{at, admitted, exponential}
 use Rattle.matrix.specs.Vector.{vec}
 use Rattle.methods.specs.declared.Action.{Action}
-use Rattle.methods.specs.Vectors.{axpy}
+use Rattle.methods.specs.declared.Tally.{Tally}
 use Rattle.methods.specs.Phi.{checked, augmentedEntry}
 
--- the phi action whose augmented matrix has this size
-unfoldable pub phiInto : ℕ → List Float → Float → List Float → ℕ → Action
-phiInto n a scaleA input size =
+-- a column of the exponential of the augmented matrix of this size
+unfoldable pub phiInto : ℕ → List Float → Float → List Float → ℕ → ℕ → Action
+phiInto n a scaleA input size column =
     let m = mat size (augmentedEntry n a scaleA input) in
-    checked (admitted m size) (vec n (λ i. at (exponential m size .entries) size i (size - 1)))
+    checked (admitted m size) (vec n (λ i. at (exponential m size .entries) size i column))
 
--- sum plus factor times k, under both checks
-unfoldable pub more : ℕ → Action → Float → Action → Action
-more n sum factor k = record { ok = sum .ok && k .ok; v = axpy n (sum .v) factor (k .v) }
+-- the report so far, with a question's tests
+unfoldable pub mayAsk : Tally → List Float → Float → Tally
+mayAsk tally x time = record { ok = tally .ok && (allFinite x && finite time) }
+
+-- the report so far, with the tests of a candidate and its error vector
+unfoldable pub mayEnd : Tally → List Float → List Float → Tally
+mayEnd tally x e = record { ok = tally .ok && (allFinite x && allFinite e) }

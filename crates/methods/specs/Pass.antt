@@ -1,31 +1,34 @@
 -- A scheme's pass as a tree of questions, and how far given answers lead into it. Definitions only.
 use Prim.Native.Nat.{ℕ, zero, suc, _+_, _*_}
-use mathlib.Core.Bool.{Bool, true, cond, _&&_}
+use mathlib.Core.Bool.{cond, _&&_}
 use mathlib.Core.List.{List}
 use lib.Ieee.{Float}
 use Rattle.loops.specs.Loop.{_!_}
 use Rattle.float.specs.Arith.{finite}
 use Rattle.evaluation.specs.Evaluation.{allFinite}
 use Rattle.matrix.specs.Vector.{vec, matVec}
+use Rattle.methods.specs.declared.Tally.{Tally}
 use Rattle.methods.specs.declared.Action.{Action}
 use Rattle.methods.specs.declared.Kind.{Kind}
 use Rattle.methods.specs.declared.Kind.the-variants.{Question, Done}
 use Rattle.methods.specs.declared.Out.{Out}
 use Rattle.methods.specs.Numbers.{num, minus}
+use Rattle.methods.specs.Sizes.{places}
 use Rattle.methods.specs.Vectors.{subtract, axpy}
+use Rattle.methods.specs.Tally.{clean, joined}
 
 -- A pass asks about a state and a time, and goes on with the answer; or it ends in a candidate and an error vector.
--- The flag says that the exponentials since the last question were admitted.
+-- The tally is that of the exponentials since the last question.
 pub data Pass : Type 0 where
-  ask : Bool → List Float → Float → (List Float → Pass) → Pass
-  done : Bool → List Float → List Float → Pass
+  ask : Tally → List Float → Float → (List Float → Pass) → Pass
+  done : Tally → List Float → List Float → Pass
 
--- one check more before the next question or the end
-unfoldable pub also : Bool → Pass → Pass
-also b (ask ok x t next) = ask (b && ok) x t next
-also b (done ok x e) = done (b && ok) x e
+-- more exponentials before the next question or the end
+unfoldable pub also : Tally → Pass → Pass
+also first (ask tally x t next) = ask (joined first tally) x t next
+also first (done tally x e) = done (joined first tally) x e
 
--- A line of a scheme: a vector worked out at once, one with a check, or a question with what is made of its answer.
+-- A line of a scheme: a vector worked out at once, one that exponentials were worked out for, or a question with what is made of its answer.
 pub data Line : Type 0 where
   now : List Float → Line
   try : Action → Line
@@ -34,8 +37,8 @@ pub data Line : Type 0 where
 infixl 20 _>>=_
 unfoldable pub _>>=_ : Line → (List Float → Pass) → Pass
 now x >>= next = next x
-try p >>= next = also (p .ok) (next (p .v))
-question x t made >>= next = ask true x t (λ answer. next (made answer))
+try p >>= next = also (p .tally) (next (p .v))
+question x t made >>= next = ask clean x t (λ answer. next (made answer))
 
 -- evaluate_new: the answer itself
 abbrev pub evaluateNew : List Float → Float → Line
@@ -57,16 +60,20 @@ pub data Stand : Type 0 where
   asks : List Float → Float → Stand
   ends : List Float → List Float → Stand
 
--- answer j: n places from 16 j on
+-- a stand under a report: it fails where an exponential was not admitted
+unfoldable pub under : Tally → Stand → Stand
+under tally s = cond (tally .ok) s fails
+
+-- answer j: its first n places
 unfoldable pub answer : ℕ → List Float → ℕ → List Float
-answer n answers j = vec n (λ i. answers ! (16 * j + i))
+answer n answers j = vec n (λ i. answers ! (places * j + i))
 
 -- The pass over `count` answers, the first of them answer j. Every question on the way is tested, answered ones too.
 unfoldable pub replay : ℕ → Pass → ℕ → ℕ → List Float → Stand
-replay n (ask ok x t next) zero j answers = cond (ok && allFinite x && finite t) (asks x t) fails
-replay n (ask ok x t next) (suc count) j answers =
-    cond (ok && allFinite x && finite t) (replay n (next (answer n answers j)) count (suc j) answers) fails
-replay n (done ok x e) count j answers = cond (ok && allFinite x && allFinite e) (ends x e) fails
+replay n (ask tally x t next) zero j answers = cond (tally .ok && allFinite x && finite t) (asks x t) fails
+replay n (ask tally x t next) (suc count) j answers =
+    cond (tally .ok && allFinite x && finite t) (replay n (next (answer n answers j)) count (suc j) answers) fails
+replay n (done tally x e) count j answers = cond (tally .ok && allFinite x && allFinite e) (ends x e) fails
 
 -- what the code's record says of it
 unfoldable pub standKind : Kind → List Float → List Float → Stand
@@ -74,4 +81,4 @@ standKind (Question t) x e = asks x t
 standKind Done x e = ends x e
 
 unfoldable pub stand : Out → Stand
-stand o = cond (o .ok) (standKind (o .kind) (o .x) (o .e)) fails
+stand o = under (o .tally) (standKind (o .kind) (o .x) (o .e))

@@ -1,7 +1,7 @@
 -- The actions of exponentials on a vector. Definitions only.
 use Prim.Native.Nat.{ℕ, _+_, _-_}
 use mathlib.Core.Bool.{Bool, cond}
-use mathlib.Core.List.{List}
+use mathlib.Core.List.{List, [], _∷_}
 use lib.Dec.{eqb, ltb}
 use lib.Ieee.{Float}
 use Rattle.loops.specs.Loop.{mat, _!_}
@@ -9,15 +9,33 @@ use Rattle.float.specs.Arith.{_⊗_, zero+, one}
 use Rattle.matrix.specs.Matrix.{at, admitted, exponential}
 use Rattle.matrix.specs.Vector.{zeros, vec, matVec}
 use Rattle.methods.specs.declared.Action.{Action}
-use Rattle.methods.specs.Vectors.{scale}
+use Rattle.methods.specs.Vectors.{scale, axpy}
+use Rattle.methods.specs.Tally.{clean, joined}
 
 -- a vector that is worked out where the row sums are admitted, and is +0.0 where they are not
 unfoldable pub checked : Bool → List Float → Action
-checked ok x = record { ok = ok; v = cond ok x zeros }
+checked ok x = record { tally = record { ok = ok }; v = cond ok x zeros }
 
--- f of the vector, under the same check
+-- f of the vector, with the same report
 unfoldable pub over : (List Float → List Float) → Action → Action
-over f p = record { ok = p .ok; v = f (p .v) }
+over f p = record { tally = p .tally; v = f (p .v) }
+
+-- sum plus factor times k, with the reports of both
+unfoldable pub more : ℕ → Action → Float → Action → Action
+more n sum factor k = record { tally = joined (sum .tally) (k .tally); v = axpy n (sum .v) factor (k .v) }
+
+-- the same of each term in turn
+unfoldable pub moreAll : ℕ → Action → List (Float × Action) → Action
+moreAll n sum [] = sum
+moreAll n sum ((coefficient, k) ∷ terms) = moreAll n (more n sum coefficient k) terms
+
+-- +0.0, of no exponential
+unfoldable pub nothing : Action
+nothing = record { tally = clean; v = zeros }
+
+-- combine of terms that exponentials were worked out for
+unfoldable pub combineAll : ℕ → List (Float × Action) → Action
+combineAll n terms = moreAll n nothing terms
 
 -- the entry in row i and column j of the augmented matrix: scale_a times a, then the input column, and ones above the diagonal behind it
 unfoldable pub augmentedEntry : ℕ → List Float → Float → List Float → ℕ → ℕ → Float

@@ -1,20 +1,22 @@
--- The sixteen schemes of methods.rs in the enum's order, a line for each line of the Rust. `n` is the dimension, `a` the Jacobian, `u` the state, `t` the time, `h` the step, `f0` or `f1` the
--- derivative at u, `au` is a times u, and `g` is f0 - au. Definitions only.
+-- The sixteen schemes of methods.rs in the enum's order, a line for each line of the Rust. `n` is the dimension, `a` the Jacobian,
+-- `u` the state, `t` the time, `h` the step, `f0` or `f1` the derivative at u, `au` is a times u, and `g` is f0 - au. Definitions only.
 use Prim.Native.Nat.{ℕ}
-use mathlib.Core.Bool.{Bool, true, false, _&&_}
+use mathlib.Core.Bool.{Bool, true, false, cond}
 use mathlib.Core.List.{List, [], _∷_}
+use lib.Dec.{eqb}
 use lib.Ieee.{Float}
 use Rattle.float.specs.Arith.{_⊕_, _⊗_, _⊘_, powi2, powi3, powi4}
 use Rattle.matrix.specs.Vector.{zeros, matVec}
 use Rattle.methods.specs.declared.Action.{Action}
 use Rattle.methods.specs.Numbers.{num, minus, decimal, minusDecimal}
 use Rattle.methods.specs.Vectors.{add, subtract, scale, axpy, combine}
-use Rattle.methods.specs.Phi.{over, phiAction, phiTerm, expAction}
+use Rattle.methods.specs.Tally.{clean}
+use Rattle.methods.specs.Phi.{over, combineAll, phiAction, phiTerm, expAction}
 use Rattle.methods.specs.Pass.{Pass, done, now, try, evaluateNew, shiftedStage, remainder, _>>=_}
 
 -- a candidate of a scheme that has no error vector
 abbrev pub candidate : List Float → Pass
-candidate x = done true x zeros
+candidate x = done clean x zeros
 
 unfoldable pub lawsonEuler : ℕ → List Float → List Float → List Float → Float → Pass
 lawsonEuler n a u g h = do
@@ -77,24 +79,19 @@ etdrk4 n a u t h f1 au =
       increment ← try (over (axpy n increment (num 4)) (phiTerm n a h 3 h f4))
       candidate (add n u increment)
 
--- HochOst4's combinations, each under the checks of the phi terms that it is made of
+-- HochOst4's combinations of phi terms
 unfoldable pub a52 : ℕ → List Float → Float → List Float → Action
 a52 n a h v =
     let half = h ⊘ num 2 in
-    let p2h = phiTerm n a half 2 (num 1) v in
-    let p3 = phiTerm n a h 3 (num 1) v in
-    let p2 = phiTerm n a h 2 (num 1) v in
-    let p3h = phiTerm n a half 3 (num 1) v in
-    record {
-      ok = p2h .ok && p3 .ok && p2 .ok && p3h .ok;
-      v = combine n ((decimal 5 1, p2h .v) ∷ (minus 1, p3 .v) ∷ (decimal 25 2, p2 .v) ∷ (minusDecimal 5 1, p3h .v) ∷ []);
-    }
+    combineAll n (
+    (decimal 5 1, phiTerm n a half 2 (num 1) v)
+    ∷ (minus 1, phiTerm n a h 3 (num 1) v)
+    ∷ (decimal 25 2, phiTerm n a h 2 (num 1) v)
+    ∷ (minusDecimal 5 1, phiTerm n a half 3 (num 1) v)
+    ∷ [])
 
 unfoldable pub a54 : ℕ → List Float → Float → List Float → Action
-a54 n a h v =
-    let p2h = phiTerm n a (h ⊘ num 2) 2 (num 1) v in
-    let inner = a52 n a h v in
-    record { ok = p2h .ok && inner .ok; v = combine n ((decimal 25 2, p2h .v) ∷ (minus 1, inner .v) ∷ []) }
+a54 n a h v = combineAll n ((decimal 25 2, phiTerm n a (h ⊘ num 2) 2 (num 1) v) ∷ (minus 1, a52 n a h v) ∷ [])
 
 unfoldable pub hochOst4 : ℕ → List Float → List Float → Float → Float → List Float → List Float → Pass
 hochOst4 n a u t h f1 au =
@@ -229,6 +226,39 @@ exprb53s3 n a u t h f0 =
       increment ← try (over (axpy n increment (num 1)) (phiTerm n a h 4 (powi4 h) b5))
       candidate (add n u increment)
 
+-- x to the first or to the second
+unfoldable pub powi : Float → ℕ → Float
+powi x k = cond (eqb k 2) (powi2 x) x
+
+-- the end of epirk5p
+unfoldable pub epirk5pEnd : ℕ → List Float → Float → Float → Float → Float → Float → Bool → List Float → List Float → Pass
+epirk5pEnd n a h g33 b31 b32 b33 true dr output = do
+  output ← try (over (axpy n output (b31 ⊗ (g33 ⊗ h))) (phiAction n a (g33 ⊗ h) 1 dr))
+  output ← try (over (axpy n output (b32 ⊘ h ⊗ powi2 (g33 ⊗ h))) (phiAction n a (g33 ⊗ h) 2 dr))
+  output ← try (over (axpy n output (b33 ⊘ (h ⊗ h) ⊗ powi3 (g33 ⊗ h))) (phiAction n a (g33 ⊗ h) 3 dr))
+  candidate output
+epirk5pEnd n a h g33 b31 b32 b33 false dr output = do
+  output ← try (over (axpy n output (b33 ⊘ (h ⊗ h))) (phiTerm n a (g33 ⊗ h) 3 (powi3 (g33 ⊗ h)) dr))
+  candidate output
+
+-- epirk5p, whose two variants choose the numbers
+unfoldable pub epirk5p : ℕ → List Float → List Float → Float → Float → List Float
+    → Float → Float → Float → Float → Float → Float → Float → Float → Float → ℕ → Bool → Pass
+epirk5p n a u t h f0 g11 g21 g32 g33 a22 b2 b31 b32 b33 secondOrder variant2 = do
+  k11 ← try (phiTerm n a (g11 ⊗ h) 1 (g11 ⊗ h) f0)
+  k21 ← try (phiTerm n a (g21 ⊗ h) 1 (g21 ⊗ h) f0)
+  k31 ← try (phiTerm n a h 1 h f0)
+  u1 ← now (add n u k11)
+  r1 ← remainder n a u1 u f0 (t ⊕ g11 ⊗ h)
+  k2 ← try (phiTerm n a (g32 ⊗ h) secondOrder (powi (g32 ⊗ h) secondOrder) r1)
+  u2 ← now (add n u k21)
+  u2 ← now (axpy n u2 (a22 ⊘ cond variant2 h (num 1)) k2)
+  r2 ← remainder n a u2 u f0 (t ⊕ g21 ⊗ h)
+  dr ← now (axpy n r2 (minus 2) r1)
+  output ← now (add n u k31)
+  output ← now (axpy n output (b2 ⊘ cond variant2 h (num 1)) k2)
+  epirk5pEnd n a h g33 b31 b32 b33 variant2 dr output
+
 unfoldable pub epirk5p1 : ℕ → List Float → List Float → Float → Float → List Float → Pass
 epirk5p1 n a u t h f0 =
     let g11 = decimal 3512959269505819 16 in
@@ -237,21 +267,10 @@ epirk5p1 n a u t h f0 =
     let g33 = decimal 6237811195337149 16 in
     let a22 = decimal 2377391534041867 15 in
     let b2 = decimal 17897526753236234 16 in
-    let b33 = decimal 9358546505792617 15 in do
-      k11 ← try (phiTerm n a (g11 ⊗ h) 1 (g11 ⊗ h) f0)
-      k21 ← try (phiTerm n a (g21 ⊗ h) 1 (g21 ⊗ h) f0)
-      k31 ← try (phiTerm n a h 1 h f0)
-      u1 ← now (add n u k11)
-      r1 ← remainder n a u1 u f0 (t ⊕ g11 ⊗ h)
-      k2 ← try (phiTerm n a (g32 ⊗ h) 1 (g32 ⊗ h) r1)
-      u2 ← now (add n u k21)
-      u2 ← now (axpy n u2 (a22 ⊘ num 1) k2)
-      r2 ← remainder n a u2 u f0 (t ⊕ g21 ⊗ h)
-      dr ← now (axpy n r2 (minus 2) r1)
-      output ← now (add n u k31)
-      output ← now (axpy n output (b2 ⊘ num 1) k2)
-      output ← try (over (axpy n output (b33 ⊘ (h ⊗ h))) (phiTerm n a (g33 ⊗ h) 3 (powi3 (g33 ⊗ h)) dr))
-      candidate output
+    let b31 = num 0 in
+    let b32 = num 0 in
+    let b33 = decimal 9358546505792617 15 in
+    epirk5p n a u t h f0 g11 g21 g32 g33 a22 b2 b31 b32 b33 1 false
 
 unfoldable pub epirk5p2 : ℕ → List Float → List Float → Float → Float → List Float → Pass
 epirk5p2 n a u t h f0 =
@@ -263,23 +282,8 @@ epirk5p2 n a u t h f0 =
     let b2 = decimal 2528063102562463 15 in
     let b31 = minusDecimal 12848678265700557 17 in
     let b32 = minusDecimal 16102803317280918 17 in
-    let b33 = decimal 5267263316169096 15 in do
-      k11 ← try (phiTerm n a (g11 ⊗ h) 1 (g11 ⊗ h) f0)
-      k21 ← try (phiTerm n a (g21 ⊗ h) 1 (g21 ⊗ h) f0)
-      k31 ← try (phiTerm n a h 1 h f0)
-      u1 ← now (add n u k11)
-      r1 ← remainder n a u1 u f0 (t ⊕ g11 ⊗ h)
-      k2 ← try (phiTerm n a (g32 ⊗ h) 2 (powi2 (g32 ⊗ h)) r1)
-      u2 ← now (add n u k21)
-      u2 ← now (axpy n u2 (a22 ⊘ h) k2)
-      r2 ← remainder n a u2 u f0 (t ⊕ g21 ⊗ h)
-      dr ← now (axpy n r2 (minus 2) r1)
-      output ← now (add n u k31)
-      output ← now (axpy n output (b2 ⊘ h) k2)
-      output ← try (over (axpy n output (b31 ⊗ (g33 ⊗ h))) (phiAction n a (g33 ⊗ h) 1 dr))
-      output ← try (over (axpy n output (b32 ⊘ h ⊗ powi2 (g33 ⊗ h))) (phiAction n a (g33 ⊗ h) 2 dr))
-      output ← try (over (axpy n output (b33 ⊘ (h ⊗ h) ⊗ powi3 (g33 ⊗ h))) (phiAction n a (g33 ⊗ h) 3 dr))
-      candidate output
+    let b33 = decimal 5267263316169096 15 in
+    epirk5p n a u t h f0 g11 g21 g32 g33 a22 b2 b31 b32 b33 2 true
 
 -- `held` says whether there is a previous nonlinear part
 unfoldable pub etd2 : ℕ → List Float → List Float → Float → List Float → Bool → List Float → Pass
@@ -307,7 +311,7 @@ exprb32 n a u t h f1 = do
   increment ← now (axpy n increment (num 2 ⊗ h) w23)
   error ← now (scale n w23 (num 2 ⊗ h))
   error ← now (axpy n error (minus 2 ⊗ h) w13)
-  done true (add n u increment) error
+  done clean (add n u increment) error
 
 unfoldable pub exprb43 : ℕ → List Float → List Float → Float → Float → List Float → List Float → Pass
 exprb43 n a u t h f1 au = do
@@ -334,4 +338,4 @@ exprb43 n a u t h f1 au = do
   error ← now (scale n w14 (num 36 ⊗ h))
   error ← now (axpy n error (minus 48 ⊗ h) w24)
   error ← now (axpy n error (num 12 ⊗ h) w34)
-  done true (add n u increment) error
+  done clean (add n u increment) error

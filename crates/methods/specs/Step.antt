@@ -1,6 +1,6 @@
 -- perform_step: the choice by number, and what stands around it. Definitions only.
 use Prim.Native.Nat.{ℕ}
-use mathlib.Core.Bool.{false, cond, _&&_}
+use mathlib.Core.Bool.{cond, _&&_}
 use mathlib.Core.List.{List, [], _∷_}
 use lib.Ieee.{Float}
 use lib.ListN.{getD}
@@ -11,8 +11,10 @@ use Rattle.methods.specs.declared.Kind.the-variants.{Question, Done}
 use Rattle.methods.specs.declared.Point.{Point}
 use Rattle.methods.specs.declared.StepResult.{StepResult}
 use Rattle.methods.specs.Vectors.{subtract}
+use Rattle.methods.specs.Tally.{unadmitted}
 use Rattle.methods.specs.Pass.{Pass, done, Stand, fails, asks, ends, replay}
-use Rattle.methods.specs.Schemes.{lawsonEuler, norsettEuler, etdrk2, etdrk3, etdrk4, hochOst4, exp4, epirk4s3A, epirk4s3B, epirk5s3, exprb53s3, epirk5p1, epirk5p2, etd2, exprb32, exprb43}
+use Rattle.methods.specs.Schemes.{lawsonEuler, norsettEuler, etdrk2, etdrk3, etdrk4, hochOst4, exp4}
+use Rattle.methods.specs.Schemes.{epirk4s3A, epirk4s3B, epirk5s3, exprb53s3, epirk5p1, epirk5p2, etd2, exprb32, exprb43}
 
 -- the pass of scheme k, with the Jacobian a, au = a u and nonlinear0 = f0 - au
 unfoldable pub pass : ℕ → Point → List Float → List Float → List Float → Pass
@@ -39,7 +41,7 @@ pass k p a au nonlinear0 =
     ∷ etd2 n a u h nonlinear0 (p .held) (p .previous)
     ∷ exprb32 n a u t h f0
     ∷ exprb43 n a u t h f0 au
-    ∷ []) k (done false zeros zeros)
+    ∷ []) k (done unadmitted zeros zeros)
 
 -- how many questions the pass of scheme k asks
 unfoldable pub questions : ℕ → ℕ

@@ -1,27 +1,48 @@
-// methods.rs: vectors, the actions of exponentials, the parts of a pass, and the five short schemes. A
-// pass is replayed over the answers so far. The other schemes and perform_step are the crate `schemes`.
+// methods.rs: vectors, the actions of exponentials, and the parts of a pass, which is replayed over the
+// answers so far. The definitions of all sixteen schemes are here. Their code is in the crates
+// `lawson_etd`, `exp4_epirk` and `rosenbrock`, and perform_step in `schemes`.
 ghost use mathlib.Core.Path.{_≡_};
-ghost use mathlib.Core.Bool.{cond, _&&_};
-ghost use mathlib.Core.List.{List, [], _∷_};
-ghost use Prim.Native.Nat.{ℕ, _-_, _*_, _≤_, _<_};
-ghost use lib.Ieee.{Float};
+ghost use mathlib.Core.List.{[], _∷_};
+ghost use Prim.Native.Nat.{_-_, _*_, _≤_, _<_};
 ghost use lib.ListN.{length};
-ghost use Rattle.float.specs.Arith.{_⊗_, finite};
+ghost use Rattle.float.specs.Arith.{_⊗_};
 ghost use Rattle.loops.specs.Loop.{mat};
-ghost use Rattle.evaluation.specs.Evaluation.{allFinite};
 ghost use Rattle.matrix.specs.Matrix.{at};
 ghost use Rattle.matrix.specs.Vector.{vec, matVec};
 ghost use Rattle.methods.specs.Numbers.{num, minus};
 ghost use Rattle.methods.specs.Vectors.{Sized, add, subtract, scale, axpy, combine};
-ghost use Rattle.methods.specs.Phi.{over, augmentedEntry, phiAction, phiTerm, expAction};
-ghost use Rattle.methods.specs.Pass.{answer, asks, ends, fails, replay, stand};
-ghost use Rattle.methods.specs.Parts.{more, phiInto};
-ghost use Rattle.methods.specs.Schemes.{lawsonEuler, norsettEuler, etdrk2, etdrk3, etd2};
+ghost use Rattle.methods.specs.Sizes.{places, answersKept, answerRoom};
+ghost use Rattle.methods.specs.Tally.{clean, unadmitted, joined};
+ghost use Rattle.methods.specs.Phi.{over, more, nothing, augmentedEntry, phiAction, phiTerm, expAction};
+ghost use Rattle.methods.specs.Pass.{answer, asks, ends, under, stand};
+ghost use Rattle.methods.specs.Parts.{phiInto, mayAsk, mayEnd};
 
-// A vector that exponentials were worked out for: `ok` says that every row sum was admitted; +0.0 where one was not.
-pub struct Action {
+// The places of a vector, the answers that are kept, and the room that these take.
+pub const PLACES: usize = 16;
+
+pub const ANSWERS: usize = 20;
+
+pub const ROOM: usize = ANSWERS * PLACES;
+
+// The schemes that are named elsewhere: one remembers, two have an error vector.
+pub const ETD2: u8 = 13;
+
+pub const EXPRB32: u8 = 14;
+
+pub const EXPRB43: u8 = 15;
+
+// A vector, +0.0 past the dimension.
+pub type Vector = [f64; PLACES];
+
+// What exponentials report: `ok` says that every row sum was admitted.
+pub struct Tally {
     pub ok: bool,
-    pub v: [f64; 16],
+}
+
+// A vector that exponentials were worked out for, with what they report; +0.0 where one was not admitted.
+pub struct Action {
+    pub tally: Tally,
+    pub v: Vector,
 }
 
 // What a scheme starts from.
@@ -29,10 +50,10 @@ pub struct Point {
     pub n: usize,
     pub time: f64,
     pub step: f64,
-    pub state: [f64; 16],
-    pub f0: [f64; 16],
+    pub state: Vector,
+    pub f0: Vector,
     pub held: bool,
-    pub previous: [f64; 16],
+    pub previous: Vector,
 }
 
 // Whether a pass asks, at which time, or has ended.
@@ -42,52 +63,52 @@ pub enum Kind {
 }
 
 // Where a scheme's pass stands: the state that it asks about, or its candidate with the error vector.
-// `ok`: every test on the way held.
+// The tally: every test on the way held.
 pub struct Out {
-    pub ok: bool,
+    pub tally: Tally,
     pub kind: Kind,
-    pub x: [f64; 16],
-    pub e: [f64; 16],
+    pub x: Vector,
+    pub e: Vector,
 }
 
 // The same of a whole step, with f0 - J u.
 pub struct StepResult {
     pub ok: bool,
     pub kind: Kind,
-    pub state: [f64; 16],
-    pub error: [f64; 16],
-    pub nonlinear: [f64; 16],
+    pub state: Vector,
+    pub error: Vector,
+    pub nonlinear: Vector,
 }
 
 // ---- vectors
 
-pub fn add(left: [f64; 16], right: [f64; 16], n: usize) -> [f64; 16]
+pub fn add(left: Vector, right: Vector, n: usize) -> Vector
     requires { ⌜ n ≤ 16 ⌝ }
     ensures { λ r. ⌜ r ≡ add n left right ⌝ }
 {
-    let mut out = [0.0; 16];
+    let mut out = [0.0; PLACES];
     for i in 0..n {
         out[i] = left[i] + right[i];
     }
     out
 }
 
-pub fn subtract(left: [f64; 16], right: [f64; 16], n: usize) -> [f64; 16]
+pub fn subtract(left: Vector, right: Vector, n: usize) -> Vector
     requires { ⌜ n ≤ 16 ⌝ }
     ensures { λ r. ⌜ r ≡ subtract n left right ⌝ }
 {
-    let mut out = [0.0; 16];
+    let mut out = [0.0; PLACES];
     for i in 0..n {
         out[i] = left[i] - right[i];
     }
     out
 }
 
-pub fn scale(vector: [f64; 16], factor: f64, n: usize) -> [f64; 16]
+pub fn scale(vector: Vector, factor: f64, n: usize) -> Vector
     requires { ⌜ n ≤ 16 ⌝ }
     ensures { λ r. ⌜ r ≡ scale n vector factor ⌝ }
 {
-    let mut out = [0.0; 16];
+    let mut out = [0.0; PLACES];
     for i in 0..n {
         out[i] = factor * vector[i];
     }
@@ -95,11 +116,11 @@ pub fn scale(vector: [f64; 16], factor: f64, n: usize) -> [f64; 16]
 }
 
 // What the Rust's axpy leaves in its output.
-pub fn axpy(output: [f64; 16], factor: f64, input: [f64; 16], n: usize) -> [f64; 16]
+pub fn axpy(output: Vector, factor: f64, input: Vector, n: usize) -> Vector
     requires { ⌜ n ≤ 16 ⌝ }
     ensures { λ r. ⌜ r ≡ axpy n output factor input ⌝ }
 {
-    let mut out = [0.0; 16];
+    let mut out = [0.0; PLACES];
     for i in 0..n {
         out[i] = output[i] + factor * input[i];
     }
@@ -107,33 +128,48 @@ pub fn axpy(output: [f64; 16], factor: f64, input: [f64; 16], n: usize) -> [f64;
 }
 
 // combine of two terms.
-pub fn combine2(c1: f64, x1: [f64; 16], c2: f64, x2: [f64; 16], n: usize) -> [f64; 16]
+pub fn combine2(c1: f64, x1: Vector, c2: f64, x2: Vector, n: usize) -> Vector
     requires { ⌜ n ≤ 16 ⌝ }
     ensures { λ r. ⌜ r ≡ combine n ((c1, x1) ∷ (c2, x2) ∷ []) ⌝ }
 {
-    axpy(axpy([0.0; 16], c1, x1, n), c2, x2, n)
+    axpy(axpy([0.0; PLACES], c1, x1, n), c2, x2, n)
 }
 
 // combine of three terms.
-pub fn combine3(
-    c1: f64,
-    x1: [f64; 16],
-    c2: f64,
-    x2: [f64; 16],
-    c3: f64,
-    x3: [f64; 16],
-    n: usize,
-) -> [f64; 16]
+pub fn combine3(c1: f64, x1: Vector, c2: f64, x2: Vector, c3: f64, x3: Vector, n: usize) -> Vector
     requires { ⌜ n ≤ 16 ⌝ }
     ensures { λ r. ⌜ r ≡ combine n ((c1, x1) ∷ (c2, x2) ∷ (c3, x3) ∷ []) ⌝ }
 {
-    axpy(axpy(axpy([0.0; 16], c1, x1, n), c2, x2, n), c3, x3, n)
+    axpy(axpy(axpy([0.0; PLACES], c1, x1, n), c2, x2, n), c3, x3, n)
+}
+
+// ---- what exponentials report
+
+// No exponential yet.
+pub fn clean() -> Tally
+    ensures { λ r. ⌜ r ≡ clean ⌝ }
+{
+    Tally { ok: true }
+}
+
+// One that was not admitted.
+pub fn unadmitted() -> Tally
+    ensures { λ r. ⌜ r ≡ unadmitted ⌝ }
+{
+    Tally { ok: false }
+}
+
+// The exponentials of both.
+pub fn joined(x: Tally, y: Tally) -> Tally
+    ensures { λ r. ⌜ r ≡ joined x y ⌝ }
+{
+    Tally { ok: x.ok & y.ok }
 }
 
 // ---- the actions of exponentials
 
 // The entry in row i and column j of the augmented matrix.
-fn augmented_entry(a: &[f64], scale_a: f64, input: [f64; 16], n: usize, i: usize, j: usize) -> f64
+fn augmented_entry(a: &[f64], scale_a: f64, input: Vector, n: usize, i: usize, j: usize) -> f64
     requires { ⌜ Sized n (now a) ⌝ }
     requires { ⌜ i < 20 ⌝ }
     ensures { λ r. ⌜ r ≡ augmentedEntry n (now (a .entry)) «scale_a» input i j ⌝ }
@@ -154,7 +190,7 @@ fn augmented_entry(a: &[f64], scale_a: f64, input: [f64; 16], n: usize, i: usize
 }
 
 // scale_a times a, with the input column, and ones above the diagonal behind it.
-fn augment(a: &[f64], scale_a: f64, input: [f64; 16], n: usize, out: &mut [f64], size: usize)
+fn augment(a: &[f64], scale_a: f64, input: Vector, n: usize, out: &mut [f64], size: usize)
     requires { ⌜ Sized n (now a) ⌝ }
     requires { ⌜ (0 < size) × (size ≤ 20) ⌝ }
     requires { ⌜ length (now out) ≡ size * size ⌝ }
@@ -165,76 +201,78 @@ fn augment(a: &[f64], scale_a: f64, input: [f64; 16], n: usize, out: &mut [f64],
     }
 }
 
-// The first n entries of the last column.
-fn last_column(e: &[f64], size: usize, n: usize) -> [f64; 16]
-    requires { ⌜ (n ≤ 16) × (n ≤ size) × (0 < size) × (size ≤ 20) ⌝ }
+// The first n entries of a column.
+fn column_of(e: &[f64], size: usize, column: usize, n: usize) -> Vector
+    requires { ⌜ (n ≤ 16) × (n ≤ size) × (column < size) × (size ≤ 20) ⌝ }
     requires { ⌜ length (now e) ≡ size * size ⌝ }
-    ensures { λ r. ⌜ r ≡ vec n (λ i. at (now (e .entry)) size i (size - 1)) ⌝ }
+    ensures { λ r. ⌜ r ≡ vec n (λ i. at (now (e .entry)) size i column) ⌝ }
 {
-    let mut out = [0.0; 16];
+    let mut out = [0.0; PLACES];
     for i in 0..n {
-        out[i] = e[i * size + (size - 1)];
+        out[i] = e[i * size + column];
     }
     out
 }
 
-// The phi action of order size - n, in two matrices that are lent.
+// A column of the exponential of the augmented matrix of this size, in two matrices that are lent.
 fn phi_into(
     a: &[f64],
     scale_a: f64,
-    input: [f64; 16],
+    input: Vector,
     n: usize,
     m: &mut [f64],
     e: &mut [f64],
     size: usize,
+    column: usize,
 ) -> Action
     requires { ⌜ Sized n (now a) ⌝ }
-    requires { ⌜ (n < size) × (size ≤ 20) ⌝ }
+    requires { ⌜ (n < size) × (column < size) × (size ≤ 20) ⌝ }
     requires { ⌜ length (now m) ≡ size * size ⌝ }
     requires { ⌜ length (now e) ≡ size * size ⌝ }
-    ensures { λ r. ⌜ r ≡ phiInto n (now (a .entry)) «scale_a» input size ⌝ }
+    ensures { λ r. ⌜ r ≡ phiInto n (now (a .entry)) «scale_a» input size column ⌝ }
 {
     augment(a, scale_a, input, n, m, size);
     if matrix::matrix_exp(m, e, size) {
         Action {
-            ok: true,
-            v: last_column(e, size, n),
+            tally: Tally { ok: true },
+            v: column_of(e, size, column, n),
         }
     } else {
         Action {
-            ok: false,
-            v: [0.0; 16],
+            tally: Tally { ok: false },
+            v: [0.0; PLACES],
         }
     }
 }
 
 // The first n entries of the last column of the augmented matrix's exponential. The room that is lent
 // is no larger than its size class.
-pub fn phi_action(a: &[f64], scale_a: f64, order: usize, input: [f64; 16], n: usize) -> Action
+pub fn phi_action(a: &[f64], scale_a: f64, order: usize, input: Vector, n: usize) -> Action
     requires { ⌜ Sized n (now a) ⌝ }
     requires { ⌜ (1 ≤ order) × (order ≤ 4) ⌝ }
     ensures { λ r. ⌜ r ≡ phiAction n (now (a .entry)) «scale_a» order input ⌝ }
 {
-    let size = n + order;
-    let count = size * size;
-    if count <= 16 {
+    let last = n + order - 1;
+    let size = last + 1;
+    let sq = size * size;
+    if sq <= 16 {
         let mut m = [0.0; 16];
         let mut e = [0.0; 16];
-        return phi_into(a, scale_a, input, n, &mut m[..count], &mut e[..count], size);
+        return phi_into(a, scale_a, input, n, &mut m[..sq], &mut e[..sq], size, last);
     }
-    if count <= 64 {
+    if sq <= 64 {
         let mut m = [0.0; 64];
         let mut e = [0.0; 64];
-        return phi_into(a, scale_a, input, n, &mut m[..count], &mut e[..count], size);
+        return phi_into(a, scale_a, input, n, &mut m[..sq], &mut e[..sq], size, last);
     }
-    if count <= 144 {
+    if sq <= 144 {
         let mut m = [0.0; 144];
         let mut e = [0.0; 144];
-        return phi_into(a, scale_a, input, n, &mut m[..count], &mut e[..count], size);
+        return phi_into(a, scale_a, input, n, &mut m[..sq], &mut e[..sq], size, last);
     }
     let mut m = [0.0; 400];
     let mut e = [0.0; 400];
-    phi_into(a, scale_a, input, n, &mut m[..count], &mut e[..count], size)
+    phi_into(a, scale_a, input, n, &mut m[..sq], &mut e[..sq], size, last)
 }
 
 pub fn phi_term(
@@ -242,19 +280,14 @@ pub fn phi_term(
     scale_a: f64,
     order: usize,
     coefficient: f64,
-    input: [f64; 16],
+    input: Vector,
     n: usize,
 ) -> Action
     requires { ⌜ Sized n (now a) ⌝ }
     requires { ⌜ (1 ≤ order) × (order ≤ 4) ⌝ }
     ensures { λ r. ⌜ r ≡ phiTerm n (now (a .entry)) «scale_a» order coefficient input ⌝ }
 {
-    let p = phi_action(a, scale_a, order, input, n);
-    let v = p.v;
-    Action {
-        ok: p.ok,
-        v: scale(v, coefficient, n),
-    }
+    scaled(phi_action(a, scale_a, order, input, n), coefficient, n)
 }
 
 // scale_a times every entry.
@@ -271,7 +304,7 @@ fn scale_matrix(a: &[f64], scale_a: f64, out: &mut [f64], n: usize)
 fn exp_into(
     a: &[f64],
     scale_a: f64,
-    input: [f64; 16],
+    input: Vector,
     n: usize,
     m: &mut [f64],
     e: &mut [f64],
@@ -284,19 +317,19 @@ fn exp_into(
     scale_matrix(a, scale_a, m, n);
     if matrix::matrix_exp(m, e, n) {
         Action {
-            ok: true,
+            tally: Tally { ok: true },
             v: matrix::mat_vec(e, input, n),
         }
     } else {
         Action {
-            ok: false,
-            v: [0.0; 16],
+            tally: Tally { ok: false },
+            v: [0.0; PLACES],
         }
     }
 }
 
 // The exponential of scale_a times a, times the input.
-pub fn exp_action(a: &[f64], scale_a: f64, input: [f64; 16], n: usize) -> Action
+pub fn exp_action(a: &[f64], scale_a: f64, input: Vector, n: usize) -> Action
     requires { ⌜ Sized n (now a) ⌝ }
     ensures { λ r. ⌜ r ≡ expAction n (now (a .entry)) «scale_a» input ⌝ }
 {
@@ -318,52 +351,63 @@ pub fn exp_action(a: &[f64], scale_a: f64, input: [f64; 16], n: usize) -> Action
 
 // ---- the parts of a pass
 
-// u plus a checked vector.
-pub fn added(u: [f64; 16], k: Action, n: usize) -> Action
+// u plus a vector.
+pub fn added(u: Vector, k: Action, n: usize) -> Action
     requires { ⌜ n ≤ 16 ⌝ }
     ensures { λ r. ⌜ r ≡ over (add n u) k ⌝ }
 {
     let v = k.v;
     Action {
-        ok: k.ok,
         v: add(u, v, n),
+        ..k
     }
 }
 
-// x plus factor times a checked vector.
-pub fn after(x: [f64; 16], factor: f64, k: Action, n: usize) -> Action
+// x plus factor times a vector.
+pub fn after(x: Vector, factor: f64, k: Action, n: usize) -> Action
     requires { ⌜ n ≤ 16 ⌝ }
     ensures { λ r. ⌜ r ≡ over (axpy n x factor) k ⌝ }
 {
     let v = k.v;
     Action {
-        ok: k.ok,
         v: axpy(x, factor, v, n),
+        ..k
     }
 }
 
-// factor times a checked vector.
+// factor times a vector.
 pub fn scaled(k: Action, factor: f64, n: usize) -> Action
     requires { ⌜ n ≤ 16 ⌝ }
     ensures { λ r. ⌜ r ≡ over (λ x. scale n x factor) k ⌝ }
 {
     let v = k.v;
     Action {
-        ok: k.ok,
         v: scale(v, factor, n),
+        ..k
     }
 }
 
-// sum plus factor times k, under both checks.
+// sum plus factor times k.
 pub fn more(sum: Action, factor: f64, k: Action, n: usize) -> Action
     requires { ⌜ n ≤ 16 ⌝ }
     ensures { λ r. ⌜ r ≡ more n sum factor k ⌝ }
 {
+    let tally = joined(sum.tally, k.tally);
     let v = sum.v;
     let w = k.v;
     Action {
-        ok: sum.ok & k.ok,
+        tally,
         v: axpy(v, factor, w, n),
+    }
+}
+
+// +0.0, of no exponential.
+pub fn nothing() -> Action
+    ensures { λ r. ⌜ r ≡ nothing ⌝ }
+{
+    Action {
+        tally: clean(),
+        v: [0.0; PLACES],
     }
 }
 
@@ -375,7 +419,7 @@ pub fn add_term(
     scale_a: f64,
     order: usize,
     coefficient: f64,
-    input: [f64; 16],
+    input: Vector,
     n: usize,
 ) -> Action
     requires { ⌜ Sized n (now a) ⌝ }
@@ -391,14 +435,14 @@ pub fn add_term(
 }
 
 // Answer j, its first n places.
-pub fn evaluated(answers: &[f64], j: usize, n: usize) -> [f64; 16]
-    requires { ⌜ length (now answers) ≡ 320 ⌝ }
-    requires { ⌜ (j < 20) × (n ≤ 16) ⌝ }
+pub fn evaluated(answers: &[f64], j: usize, n: usize) -> Vector
+    requires { ⌜ length (now answers) ≡ answerRoom ⌝ }
+    requires { ⌜ (j < answersKept) × (n ≤ places) ⌝ }
     ensures { λ r. ⌜ r ≡ answer n (now (answers .entry)) j ⌝ }
 {
-    let mut out = [0.0; 16];
+    let mut out = [0.0; PLACES];
     for i in 0..n {
-        out[i] = answers[16 * j + i];
+        out[i] = answers[PLACES * j + i];
     }
     out
 }
@@ -406,15 +450,15 @@ pub fn evaluated(answers: &[f64], j: usize, n: usize) -> [f64; 16]
 // What shifted_stage makes of answer j.
 pub fn shifted_stage(
     a: &[f64],
-    stage: [f64; 16],
-    au: [f64; 16],
+    stage: Vector,
+    au: Vector,
     answers: &[f64],
     j: usize,
     n: usize,
-) -> [f64; 16]
+) -> Vector
     requires { ⌜ Sized n (now a) ⌝ }
-    requires { ⌜ length (now answers) ≡ 320 ⌝ }
-    requires { ⌜ j < 20 ⌝ }
+    requires { ⌜ length (now answers) ≡ answerRoom ⌝ }
+    requires { ⌜ j < answersKept ⌝ }
     ensures { λ r. ⌜ r ≡ axpy n (axpy n (answer n (now (answers .entry)) j) (minus 1) (matVec n (now (a .entry)) stage)) (num 1) au ⌝ }
 {
     let value = evaluated(answers, j, n);
@@ -425,16 +469,16 @@ pub fn shifted_stage(
 // What remainder makes of answer j.
 pub fn remainder(
     a: &[f64],
-    stage: [f64; 16],
-    base: [f64; 16],
-    f0: [f64; 16],
+    stage: Vector,
+    base: Vector,
+    f0: Vector,
     answers: &[f64],
     j: usize,
     n: usize,
-) -> [f64; 16]
+) -> Vector
     requires { ⌜ Sized n (now a) ⌝ }
-    requires { ⌜ length (now answers) ≡ 320 ⌝ }
-    requires { ⌜ j < 20 ⌝ }
+    requires { ⌜ length (now answers) ≡ answerRoom ⌝ }
+    requires { ⌜ j < answersKept ⌝ }
     ensures { λ r. ⌜ r ≡ axpy n (axpy n (answer n (now (answers .entry)) j) (minus 1) f0) (minus 1) (matVec n (now (a .entry)) (subtract n stage base)) ⌝ }
 {
     let value = evaluated(answers, j, n);
@@ -442,154 +486,40 @@ pub fn remainder(
     axpy(axpy(value, -1.0, f0, n), -1.0, product, n)
 }
 
-// Whether a question passes its tests.
-pub fn may_ask(ok: bool, x: [f64; 16], time: f64) -> bool
-    ensures { λ r. ⌜ r ≡ (ok && (allFinite x && finite time)) ⌝ }
+// The report so far, with a question's tests.
+pub fn may_ask(tally: Tally, x: Vector, time: f64) -> Tally
+    ensures { λ r. ⌜ r ≡ mayAsk tally x time ⌝ }
 {
     let good = evaluation::all_finite(&x) & float::finite(time);
-    ok & good
-}
-
-pub fn asked(ok: bool, x: [f64; 16], time: f64) -> Out
-    ensures { λ r. ⌜ stand r ≡ cond ok (asks x time) fails ⌝ }
-{
-    Out {
-        ok,
-        kind: Kind::Question(time),
-        x,
-        e: [0.0; 16],
+    Tally {
+        ok: tally.ok & good,
     }
 }
 
-pub fn ended(ok: bool, x: [f64; 16], e: [f64; 16]) -> Out
-    ensures { λ r. ⌜ stand r ≡ cond (ok && (allFinite x && allFinite e)) (ends x e) fails ⌝ }
+// A question that is open.
+pub fn asked(tally: Tally, x: Vector, time: f64) -> Out
+    ensures { λ r. ⌜ stand r ≡ under tally (asks x time) ⌝ }
+{
+    Out {
+        tally,
+        kind: Kind::Question(time),
+        x,
+        e: [0.0; PLACES],
+    }
+}
+
+// The end, with the tests of the candidate and the error vector.
+pub fn ended(tally: Tally, x: Vector, e: Vector) -> Out
+    ensures { λ r. ⌜ stand r ≡ under (mayEnd tally x e) (ends x e) ⌝ }
 {
     let good = evaluation::all_finite(&x) & evaluation::all_finite(&e);
+    let tally = Tally {
+        ok: tally.ok & good,
+    };
     Out {
-        ok: ok & good,
+        tally,
         kind: Kind::Done,
         x,
         e,
     }
-}
-
-// ---- the schemes
-
-pub fn lawson_euler(a: &[f64], u: [f64; 16], g: [f64; 16], h: f64, n: usize) -> Out
-    requires { ⌜ Sized n (now a) ⌝ }
-    ensures { λ r. ⌜ ((count first : ℕ) (answers : List Float) → stand r ≡ replay n (lawsonEuler n (now (a .entry)) u g h) count first answers) ⌝ }
-{
-    let shifted = axpy(u, h, g, n);
-    let s = exp_action(a, h, shifted, n);
-    let candidate = s.v;
-    ended(s.ok, candidate, [0.0; 16])
-}
-
-pub fn norsett_euler(a: &[f64], u: [f64; 16], f0: [f64; 16], h: f64, n: usize) -> Out
-    requires { ⌜ Sized n (now a) ⌝ }
-    ensures { λ r. ⌜ ((count first : ℕ) (answers : List Float) → stand r ≡ replay n (norsettEuler n (now (a .entry)) u f0 h) count first answers) ⌝ }
-{
-    let s = added(u, phi_term(a, h, 1, h, f0, n), n);
-    let x = s.v;
-    ended(s.ok, x, [0.0; 16])
-}
-
-pub fn etd2(
-    a: &[f64],
-    u: [f64; 16],
-    h: f64,
-    g: [f64; 16],
-    held: bool,
-    previous: [f64; 16],
-    n: usize,
-) -> Out
-    requires { ⌜ Sized n (now a) ⌝ }
-    ensures { λ r. ⌜ ((count first : ℕ) (answers : List Float) → stand r ≡ replay n (etd2 n (now (a .entry)) u h g held previous) count first answers) ⌝ }
-{
-    let k = exp_action(a, h, u, n);
-    let k = add_term(k, 1.0, a, h, 1, h, g, n);
-    if held {
-        let k = add_term(k, 1.0, a, h, 2, h, g, n);
-        let k = add_term(k, -1.0, a, h, 2, h, previous, n);
-        let output = k.v;
-        return ended(k.ok, output, [0.0; 16]);
-    }
-    let output = k.v;
-    ended(k.ok, output, [0.0; 16])
-}
-
-pub fn etdrk2(
-    p: Point,
-    a: &[f64],
-    g0: [f64; 16],
-    answers: &[f64],
-    first: usize,
-    count: usize,
-) -> Out
-    requires { ⌜ Sized (p .n) (now a) ⌝ }
-    requires { ⌜ length (now answers) ≡ 320 ⌝ }
-    requires { ⌜ first ≤ 16 ⌝ }
-    ensures { λ r. ⌜ stand r ≡ replay (p .n) (etdrk2 (p .n) (now (a .entry)) (p .state) (p .time) (p .step) (p .f0) g0) count first (now (answers .entry)) ⌝ }
-{
-    let n = p.n;
-    let t = p.time;
-    let h = p.step;
-    let u = p.state;
-    let f0 = p.f0;
-    let s2 = added(u, phi_term(a, h, 1, h, f0, n), n);
-    let u2 = s2.v;
-    let ok = may_ask(s2.ok, u2, t + h);
-    if count == 0 {
-        return asked(ok, u2, t + h);
-    }
-    let f2 = evaluated(answers, first, n);
-    let g2 = subtract(f2, matrix::mat_vec(a, u2, n), n);
-    let difference = subtract(g2, g0, n);
-    let s = added(u2, phi_term(a, h, 2, h, difference, n), n);
-    let x = s.v;
-    ended(ok & s.ok, x, [0.0; 16])
-}
-
-pub fn etdrk3(
-    p: Point,
-    a: &[f64],
-    au: [f64; 16],
-    answers: &[f64],
-    first: usize,
-    count: usize,
-) -> Out
-    requires { ⌜ Sized (p .n) (now a) ⌝ }
-    requires { ⌜ length (now answers) ≡ 320 ⌝ }
-    requires { ⌜ first ≤ 16 ⌝ }
-    ensures { λ r. ⌜ stand r ≡ replay (p .n) (etdrk3 (p .n) (now (a .entry)) (p .state) (p .time) (p .step) (p .f0) au) count first (now (answers .entry)) ⌝ }
-{
-    let n = p.n;
-    let t = p.time;
-    let h = p.step;
-    let u = p.state;
-    let f1 = p.f0;
-    let s2 = added(u, phi_term(a, h / 2.0, 1, h / 2.0, f1, n), n);
-    let u2 = s2.v;
-    let ok = may_ask(s2.ok, u2, t + h / 2.0);
-    if count == 0 {
-        return asked(ok, u2, t + h / 2.0);
-    }
-    let f2 = shifted_stage(a, u2, au, answers, first, n);
-    let stage = axpy(scale(f2, 2.0, n), -1.0, f1, n);
-    let s3 = added(u, phi_term(a, h, 1, h, stage, n), n);
-    let u3 = s3.v;
-    let ok = may_ask(ok & s3.ok, u3, t + h);
-    if count == 1 {
-        return asked(ok, u3, t + h);
-    }
-    let f3 = shifted_stage(a, u3, au, answers, first + 1, n);
-    let k = phi_term(a, h, 1, h, f1, n);
-    let k = add_term(k, -3.0, a, h, 2, h, f1, n);
-    let k = add_term(k, 4.0, a, h, 3, h, f1, n);
-    let k = add_term(k, 4.0, a, h, 2, h, f2, n);
-    let k = add_term(k, -8.0, a, h, 3, h, f2, n);
-    let k = add_term(k, -1.0, a, h, 2, h, f3, n);
-    let k = add_term(k, 4.0, a, h, 3, h, f3, n);
-    let increment = k.v;
-    ended(ok & k.ok, add(u, increment, n), [0.0; 16])
 }

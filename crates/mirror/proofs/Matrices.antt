@@ -106,7 +106,7 @@ module _ {n : ℕ} {σ : ℕ → Bool} where
 
 -- ---- actions
 pub record Actions (n : ℕ) (σ : ℕ → Bool) (p q : Action) : Type 0 where
-  pub oks : p .ok ≡ q .ok
+  pub tallies : p .tally ≡ q .tally
   pub vs : Vecs n σ (p .v) (q .v)
 
 checked-m : {n : ℕ} {σ : ℕ → Bool} (b b' : Bool) {x x' : List Float} → b ≡ b' → Vecs n σ x x' → Actions n σ (checked b x) (checked b' x')
@@ -114,8 +114,8 @@ unfolding checked
 checked-m {n} {σ} b b' {x} {x'} e p = subst (λ (c : Bool). Actions n σ (checked b x) (checked c x')) e (go b)
   where
     go : (c : Bool) → Actions n σ (checked c x) (checked c x')
-    go true = record { oks = refl; vs = p }
-    go false = record { oks = refl; vs = zeros-m }
+    go true = record { tallies = refl; vs = p }
+    go false = record { tallies = refl; vs = zeros-m }
 
 -- σ below n, and no sign turned past it
 ext : ℕ → (ℕ → Bool) → ℕ → Bool
@@ -165,7 +165,7 @@ module _ {n : ℕ} {σ : ℕ → Bool} where
 
   pub over-m : {f f' : List Float → List Float} {p p' : Action} → Actions n σ p p' → ((x x' : List Float) → Vecs n σ x x' → Vecs n σ (f x) (f' x')) → Actions n σ (over f p) (over f' p')
   unfolding over
-  over-m {p = p} {p' = p'} P F = record { oks = P .oks; vs = F (p .v) (p' .v) (P .vs) }
+  over-m {p = p} {p' = p'} P F = record { tallies = P .tallies; vs = F (p .v) (p' .v) (P .vs) }
 
   pub phiTerm-m : {a a' x x' : List Float} (c : Float) (order : ℕ) (k : Float) → 0 < order → Mats n σ a a' → Vecs n σ x x' → Actions n σ (phiTerm n a c order k x) (phiTerm n a' c order k x')
   unfolding phiTerm

@@ -1,25 +1,29 @@
 -- Mirrored passes: the same questions and the same end, mirrored, as long as the answers are. Assumes nothing.
 use Prim.Native.Nat.{ℕ, zero, suc, _<_}
 use mathlib.Core.Path.{_≡_, refl, subst}
-use mathlib.Core.Bool.{Bool, true, false, _&&_}
+use mathlib.Core.Bool.{Bool, true, false}
 use mathlib.Core.List.{List, [], _∷_}
 use lib.Dec.{lit<}
 use lib.Ieee.{Float}
 use lib.ListN.{getD}
 use Rattle.float.specs.Arith.{_⊘_}
+use Rattle.methods.specs.declared.Tally.{Tally}
 use Rattle.methods.specs.declared.Action.{Action}
 use Rattle.methods.specs.declared.Point.{Point}
 use Rattle.methods.specs.Numbers.{num, minus}
+use Rattle.methods.specs.Tally.{clean, unadmitted, joined}
+use Rattle.methods.specs.Phi.{more, moreAll, nothing, combineAll}
 use Rattle.methods.specs.Pass.{Pass, ask, done, also, Line, now, try, question, shiftedStage, remainder, _>>=_}
-use Rattle.methods.specs.Schemes.{a52, a54, lawsonEuler, norsettEuler, etdrk2, etdrk3, etdrk4, hochOst4, exp4, epirk4s3, epirk4s3A, epirk4s3B, epirk5s3, exprb53s3, epirk5p1, epirk5p2, etd2, exprb32, exprb43}
+use Rattle.methods.specs.Schemes.{a52, a54, lawsonEuler, norsettEuler, etdrk2, etdrk3, etdrk4, hochOst4, exp4, epirk4s3, epirk4s3A, epirk4s3B, epirk5s3}
+use Rattle.methods.specs.Schemes.{exprb53s3, powi, epirk5p, epirk5pEnd, epirk5p1, epirk5p2, etd2, exprb32, exprb43}
 use Rattle.methods.specs.Step.{pass}
 use Rattle.mirror.proofs.Vectors.{Vecs, Mats, no-terms, one-term, zeros-m, plus-m, minus-m, scale-m, axpy-m, combine-m, matVec-m}
 use Rattle.mirror.proofs.Matrices.{Actions, over-m, phiAction-m, phiTerm-m, expAction-m}
 
 pub data Passes (n : ℕ) (σ : ℕ → Bool) : Pass → Pass → Type 0 where
-  ask-m : (ok : Bool) {x x' : List Float} (t : Float) {k k' : List Float → Pass} → Vecs n σ x x' → ((r r' : List Float) → Vecs n σ r r' → Passes n σ (k r) (k' r'))
-      → Passes n σ (ask ok x t k) (ask ok x' t k')
-  done-m : (ok : Bool) {x x' e e' : List Float} → Vecs n σ x x' → Vecs n σ e e' → Passes n σ (done ok x e) (done ok x' e')
+  ask-m : (tally : Tally) {x x' : List Float} (t : Float) {k k' : List Float → Pass} → Vecs n σ x x' → ((r r' : List Float) → Vecs n σ r r' → Passes n σ (k r) (k' r'))
+      → Passes n σ (ask tally x t k) (ask tally x' t k')
+  done-m : (tally : Tally) {x x' e e' : List Float} → Vecs n σ x x' → Vecs n σ e e' → Passes n σ (done tally x e) (done tally x' e')
 
 data Lines (n : ℕ) (σ : ℕ → Bool) : Line → Line → Type 0 where
   now-m : {x x' : List Float} → Vecs n σ x x' → Lines n σ (now x) (now x')
@@ -28,18 +32,18 @@ data Lines (n : ℕ) (σ : ℕ → Bool) : Line → Line → Type 0 where
       → Lines n σ (question x t f) (question x' t f')
 
 module _ {n : ℕ} {σ : ℕ → Bool} where
-  also-m : (b b' : Bool) → b ≡ b' → {p p' : Pass} → Passes n σ p p' → Passes n σ (also b p) (also b' p')
-  also-m b b' e {p} {p'} q = subst (λ (c : Bool). Passes n σ (also b p) (also c p')) e (go q)
+  also-m : (b b' : Tally) → b ≡ b' → {p p' : Pass} → Passes n σ p p' → Passes n σ (also b p) (also b' p')
+  also-m b b' e {p} {p'} q = subst (λ (c : Tally). Passes n σ (also b p) (also c p')) e (go q)
     where
       go : {p p' : Pass} → Passes n σ p p' → Passes n σ (also b p) (also b p')
-      go (ask-m ok t u k) = unfold also in ask-m (b && ok) t u k
-      go (done-m ok u v) = unfold also in done-m (b && ok) u v
+      go (ask-m tally t u k) = unfold also in ask-m (joined b tally) t u k
+      go (done-m tally u v) = unfold also in done-m (joined b tally) u v
 
   bind-m : {l l' : Line} {k k' : List Float → Pass} → Lines n σ l l' → ((x x' : List Float) → Vecs n σ x x' → Passes n σ (k x) (k' x')) → Passes n σ (l >>= k) (l' >>= k')
   unfolding _>>=_
   bind-m (now-m {x = x} {x' = x'} p) f = f x x' p
-  bind-m (try-m {p = p} {p' = p'} c) f = also-m (p .ok) (p' .ok) (c .oks) (f (p .v) (p' .v) (c .vs))
-  bind-m (question-m t p q) f = ask-m true t p (λ r r' R. f _ _ (q r r' R))
+  bind-m (try-m {p = p} {p' = p'} c) f = also-m (p .tally) (p' .tally) (c .tallies) (f (p .v) (p' .v) (c .vs))
+  bind-m (question-m t p q) f = ask-m clean t p (λ r r' R. f _ _ (q r r' R))
 
   shifted-m : {a a' x x' u u' : List Float} (t : Float) → Mats n σ a a' → Vecs n σ x x' → Vecs n σ u u' → Lines n σ (shiftedStage n a x u t) (shiftedStage n a' x' u' t)
   shifted-m t A X U = question-m t X (λ r r' R. axpy-m (num 1) (axpy-m (minus 1) R (matVec-m A X)) U)
@@ -60,24 +64,26 @@ order-4 : 0 < 4
 order-4 = lit< tt
 
 module _ {n : ℕ} {σ : ℕ → Bool} where
+  more-m : {s s' k k' : Action} (c : Float) → Actions n σ s s' → Actions n σ k k' → Actions n σ (more n s c k) (more n s' c k')
+  unfolding more
+  more-m c S K = record { tallies = λ i. joined (S .tallies i) (K .tallies i); vs = axpy-m c (S .vs) (K .vs) }
+
+  nothing-m : Actions n σ nothing nothing
+  unfolding nothing
+  nothing-m = record { tallies = refl; vs = zeros-m }
+
   a52-m : {a a' x x' : List Float} (h : Float) → Mats n σ a a' → Vecs n σ x x' → Actions n σ (a52 n a h x) (a52 n a' h x')
-  unfolding a52
+  unfolding a52 combineAll moreAll
   a52-m h A X =
       let p = phiTerm-m (h ⊘ num 2) 2 (num 1) order-2 A X in
       let q = phiTerm-m h 3 (num 1) order-3 A X in
       let r = phiTerm-m h 2 (num 1) order-2 A X in
       let s = phiTerm-m (h ⊘ num 2) 3 (num 1) order-3 A X in
-      record {
-        oks = λ i. p .oks i && q .oks i && r .oks i && s .oks i;
-        vs = combine-m (one-term _ (p .vs) (one-term _ (q .vs) (one-term _ (r .vs) (one-term _ (s .vs) no-terms))));
-      }
+      more-m _ (more-m _ (more-m _ (more-m _ nothing-m p) q) r) s
 
   a54-m : {a a' x x' : List Float} (h : Float) → Mats n σ a a' → Vecs n σ x x' → Actions n σ (a54 n a h x) (a54 n a' h x')
-  unfolding a54
-  a54-m h A X =
-      let p = phiTerm-m (h ⊘ num 2) 2 (num 1) order-2 A X in
-      let q = a52-m h A X in
-      record { oks = λ i. p .oks i && q .oks i; vs = combine-m (one-term _ (p .vs) (one-term _ (q .vs) no-terms)) }
+  unfolding a54 combineAll moreAll
+  a54-m h A X = more-m _ (more-m _ nothing-m (phiTerm-m (h ⊘ num 2) 2 (num 1) order-2 A X)) (a52-m h A X)
 
 ruleset parts = (bind-m, done-m, now-m, try-m, over-m, question-m, zeros-m, plus-m, minus-m, scale-m, axpy-m, combine-m, no-terms, one-term, matVec-m, phiAction-m, phiTerm-m, expAction-m, shifted-m, remainder-m, a52-m, a54-m, order-1, order-2, order-3, order-4)
 
@@ -116,11 +122,11 @@ module _ {n : ℕ} {σ : ℕ → Bool} {a a' u u' f f' : List Float} (t h : Floa
   exprb53s3-m = search parts depth 60
 
   epirk5p1-m : Passes n σ (epirk5p1 n a u t h f) (epirk5p1 n a' u' t h f')
-  unfolding epirk5p1
+  unfolding epirk5p1 epirk5p epirk5pEnd powi
   epirk5p1-m = search parts depth 60
 
   epirk5p2-m : Passes n σ (epirk5p2 n a u t h f) (epirk5p2 n a' u' t h f')
-  unfolding epirk5p2
+  unfolding epirk5p2 epirk5p epirk5pEnd powi
   epirk5p2-m = search parts depth 60
 
   exprb32-m : Passes n σ (exprb32 n a u t h f) (exprb32 n a' u' t h f')
@@ -235,4 +241,4 @@ pass-m k (points t h held U F W) A B G =
     (more-m (etd2-m t h A U G held W)
     (more-m (exprb32-m t h A U F)
     (more-m (exprb43-m t h A U F B) none-m))))))))))))))))
-    (done-m false zeros-m zeros-m)
+    (done-m unadmitted zeros-m zeros-m)

@@ -34,10 +34,10 @@ module _ {n : ℕ} {σ : ℕ → Bool} where
   replay-m : {p p' : Pass} (most : ℕ) (r r' : List Float) → ((k : ℕ) → k < most → Vecs n σ (answer n r k) (answer n r' k))
       → Passes n σ p p' → (c j : ℕ) → j + c ≤ most → Stands n σ (replay n p c j r) (replay n p' c j r')
   unfolding replay
-  replay-m m r r' R (ask-m ok t X K) zero j h = or-fails _ _ (λ i. ok && allFinite-m X i && finite t) (asks-m t X)
-  replay-m m r r' R (ask-m ok t X K) (suc c) j h =
-      or-fails _ _ (λ i. ok && allFinite-m X i && finite t) (replay-m m r r' R (K _ _ (R j (omega arith))) c (suc j) (omega arith))
-  replay-m m r r' R (done-m ok X E) c j h = or-fails _ _ (λ i. ok && allFinite-m X i && allFinite-m E i) (ends-m X E)
+  replay-m m r r' R (ask-m tally t X K) zero j h = or-fails _ _ (λ i. tally .ok && allFinite-m X i && finite t) (asks-m t X)
+  replay-m m r r' R (ask-m tally t X K) (suc c) j h =
+      or-fails _ _ (λ i. tally .ok && allFinite-m X i && finite t) (replay-m m r r' R (K _ _ (R j (omega arith))) c (suc j) (omega arith))
+  replay-m m r r' R (done-m tally X E) c j h = or-fails _ _ (λ i. tally .ok && allFinite-m X i && allFinite-m E i) (ends-m X E)
 
   finish-m : {g g' : List Float} {p p' : Stand} → Vecs n σ g g' → Stands n σ p p' → Progresses n σ (finish g p) (finish g' p')
   unfolding finish

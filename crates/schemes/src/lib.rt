@@ -1,47 +1,48 @@
 // methods.rs: perform_step, the choice of a scheme by its number and what stands around it.
-use epirk::epirk4s3_a;
-use epirk::epirk4s3_b;
-use epirk::epirk5p1;
-use epirk::epirk5p2;
-use epirk::epirk5s3;
-use epirk::exp4;
-use epirk::exprb53s3;
-use etd::etdrk4;
-use etd::exprb32;
-use etd::exprb43;
-use etd::hoch_ost4;
+use exp4_epirk::epirk4s3_a;
+use exp4_epirk::epirk4s3_b;
+use exp4_epirk::epirk5p1;
+use exp4_epirk::epirk5p2;
+use exp4_epirk::epirk5s3;
+use exp4_epirk::exp4;
+use lawson_etd::etd2;
+use lawson_etd::etdrk2;
+use lawson_etd::etdrk3;
+use lawson_etd::etdrk4;
+use lawson_etd::hoch_ost4;
+use lawson_etd::lawson_euler;
+use lawson_etd::norsett_euler;
 use methods::Kind;
 use methods::Out;
+use methods::PLACES;
 use methods::Point;
 use methods::StepResult;
+use methods::Vector;
 use methods::ended;
-use methods::etd2;
-use methods::etdrk2;
-use methods::etdrk3;
-use methods::lawson_euler;
-use methods::norsett_euler;
 use methods::subtract;
+use methods::unadmitted;
+use rosenbrock::exprb32;
+use rosenbrock::exprb43;
+use rosenbrock::exprb53s3;
 ghost use mathlib.Core.Path.{_≡_};
 ghost use Prim.Native.Nat.{_≤_};
-ghost use lib.ListN.{length};
 ghost use Rattle.matrix.specs.Vector.{matVec};
-ghost use Rattle.methods.specs.Vectors.{Sized};
+ghost use Rattle.methods.specs.Given.{Given};
 ghost use Rattle.methods.specs.Pass.{replay, stand};
 ghost use Rattle.methods.specs.Step.{pass, questions, finish, performStep, progress};
 
+// The pass of the scheme with this number.
 fn chosen(
     scheme: u8,
     p: Point,
     a: &[f64],
-    au: [f64; 16],
-    g: [f64; 16],
+    au: Vector,
+    g: Vector,
     answers: &[f64],
     first: usize,
     count: usize,
 ) -> Out
-    requires { ⌜ Sized (p .n) (now a) ⌝ }
-    requires { ⌜ length (now answers) ≡ 320 ⌝ }
-    requires { ⌜ first ≤ 16 ⌝ }
+    requires { ⌜ Given (p .n) (now a) (now answers) first ⌝ }
     requires { ⌜ au ≡ matVec (p .n) (now a) (p .state) ⌝ }
     ensures { λ r. ⌜ stand r ≡ replay (p .n) (pass scheme p (now (a .entry)) au g) count first (now (answers .entry)) ⌝ }
 {
@@ -67,7 +68,7 @@ fn chosen(
         13 => etd2(a, u, h, g, p.held, previous, n),
         14 => exprb32(p, a, au, answers, first, count),
         15 => exprb43(p, a, au, answers, first, count),
-        _ => ended(false, [0.0; 16], [0.0; 16]),
+        _ => ended(unadmitted(), [0.0; PLACES], [0.0; PLACES]),
     }
 }
 
@@ -82,14 +83,16 @@ pub fn questions(scheme: u8) -> usize
     0
 }
 
-fn finished(o: Out, nonlinear: [f64; 16]) -> StepResult
+// A pass's stand, with the nonlinear part.
+fn finished(o: Out, nonlinear: Vector) -> StepResult
     ensures { λ r. ⌜ progress r ≡ finish nonlinear (stand o) ⌝ }
 {
+    let tally = o.tally;
     let kind = o.kind;
     let state = o.x;
     let error = o.e;
     StepResult {
-        ok: o.ok,
+        ok: tally.ok,
         kind,
         state,
         error,
@@ -106,9 +109,7 @@ pub fn perform_step(
     first: usize,
     count: usize,
 ) -> StepResult
-    requires { ⌜ Sized (p .n) (now a) ⌝ }
-    requires { ⌜ length (now answers) ≡ 320 ⌝ }
-    requires { ⌜ first ≤ 16 ⌝ }
+    requires { ⌜ Given (p .n) (now a) (now answers) first ⌝ }
     ensures { λ r. ⌜ progress r ≡ performStep scheme p (now (a .entry)) count first (now (answers .entry)) ⌝ }
 {
     let n = p.n;
@@ -126,8 +127,8 @@ pub fn perform_step(
     StepResult {
         ok: false,
         kind: Kind::Done,
-        state: [0.0; 16],
-        error: [0.0; 16],
+        state: [0.0; PLACES],
+        error: [0.0; PLACES],
         nonlinear: nonlinear0,
     }
 }

@@ -146,7 +146,7 @@ numbers = record {
   phiAction = λ n order scaleA a input out.
       let action = phiAction n a scaleA order (vec n (λ i. input ! i)) in
       call-first bare-number (phiTests n order scaleA a input (length out)) _ (refuseBare out) _ (phi-numbered n order scaleA a input (length out)) refused-number
-      (λ _. either-first bare-number (action .ok) _ (refuseBare out 6) (filled-number (tab n (λ i. action .v ! i))) (refused-number 6));
+      (λ _. either-first bare-number (action .tally .ok) _ (refuseBare out 6) (filled-number (tab n (λ i. action .v ! i))) (refused-number 6));
   errorNorm = λ n relative absolute error state candidate.
       only-tests number (normTests n relative absolute error state candidate) Refused _ (norm-numbered n relative absolute error state candidate) refused-number
       (unfold number valuesOf figured in refl);
@@ -200,5 +200,5 @@ refusals = record {
   exponential = λ size m out. unwritten _ out _ (filled-unwritten out (exponential m size .entries) (admitted m size));
   phiAction = λ n order scaleA a input out.
       let action = phiAction n a scaleA order (vec n (λ i. input ! i)) in
-      unwritten _ out _ (filled-unwritten out (tab n (λ i. action .v ! i)) (action .ok));
+      unwritten _ out _ (filled-unwritten out (tab n (λ i. action .v ! i)) (action .tally .ok));
 }

@@ -50,7 +50,7 @@ unfoldable pub phiCall : ℕ → ℕ → Float → List Float → List Float →
 phiCall n order scaleA a input out =
     let action = phiAction n a scaleA order (vec n (λ i. input ! i)) in
     unless (fault (phiTests n order scaleA a input (length out))) (refuseBare out)
-    (cond (action .ok) (bare Filled (tab n (λ i. action .v ! i))) (refuseBare out 6))
+    (cond (action .tally .ok) (bare Filled (tab n (λ i. action .v ! i))) (refuseBare out 6))
 
 -- a dimension, two tolerances, and three vectors
 unfoldable pub normTests : ℕ → Float → Float → List Float → List Float → List Float → Tests

@@ -50,7 +50,7 @@ pub record Numbers : Type 0 where
   pub exponential : (size : ℕ) (m out : List Float)
       → First (exponentialTests size m (length out) ++ ((admitted m size, 6) ∷ [])) (number (exponentialCall size m out .answer))
   pub phiAction : (n order : ℕ) (scaleA : Float) (a input out : List Float)
-      → First (phiTests n order scaleA a input (length out) ++ ((phiAction n a scaleA order (vec n (λ i. input ! i)) .ok, 6) ∷ []))
+      → First (phiTests n order scaleA a input (length out) ++ ((phiAction n a scaleA order (vec n (λ i. input ! i)) .tally .ok, 6) ∷ []))
       (number (phiCall n order scaleA a input out .answer))
   pub errorNorm : (n : ℕ) (relative absolute : Float) (error state candidate : List Float)
       → First (normTests n relative absolute error state candidate) (number (normCall n relative absolute error state candidate))

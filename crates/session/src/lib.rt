@@ -877,7 +877,8 @@ pub fn phi_action(
     let k = phi_fault(n, order, scale_a, a, input, out.len());
     if k == 0 {
         let action = methods::phi_action(a, scale_a, order, places::vector(input, n), n);
-        if action.ok {
+        let tally = action.tally;
+        if tally.ok {
             let v = action.v;
             places::copy_out(v, &mut *out);
             return Answer::Filled;

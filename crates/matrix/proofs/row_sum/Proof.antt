@@ -10,13 +10,16 @@ use Rattle.matrix.proofs.row_sum.Statement.{statement}
 use Rattle.matrix.proofs.row_sum.Tie as tie
 
 abbrev Inv-loop : tie.InvT-loop
-Inv-loop m i n row sum₀ column₀ sum column = (1 ≤ column) × (column ≤ n) × (sum ≡ sumOf column (λ k. abs (at m n i k)))
+Inv-loop m i n row last sum₀ column₀ sum column = (1 ≤ column) × (column ≤ n) × (sum ≡ sumOf column (λ k. abs (at m n i k)))
 
 abbrev μ-loop : tie.MeasureT-loop
-μ-loop m i n row sum₀ column₀ sum column = n - column
+μ-loop m i n row last sum₀ column₀ sum column = n - column
 
 row-start-requires : tie.Need-row-start-requires Inv-loop μ-loop
 row-start-requires c κs = omega arith
+
+sub-last : tie.Need-sub-last Inv-loop μ-loop
+sub-last c = omega arith
 
 mul-magnitude : tie.Need-mul-magnitude Inv-loop μ-loop
 mul-magnitude c = omega arith
@@ -49,7 +52,10 @@ loop-less : tie.Need-loop-less Inv-loop μ-loop
 loop-less c = omega arith
 
 loop-again : tie.Need-loop-again Inv-loop μ-loop
-loop-again c = (omega arith, omega arith, sum-step _ _ _ _ (c .before .before .before .loop .inv .2) (rw (← c .before .before .before .before .before .before .row-start .ensures .0) (c .magnitude2 .ensures)) (omega arith))
+loop-again c =
+    let at-loop = c .before .before .before in
+    let at-row-start = at-loop .before .before .before in
+    (omega arith, omega arith, sum-step _ _ _ _ (at-loop .loop .inv .2) (rw (← at-row-start .row-start .ensures .0) (c .magnitude2 .ensures)) (omega arith))
 
 returns : tie.Need-returns Inv-loop μ-loop
 unfolding rowSum
@@ -62,6 +68,7 @@ row-sum-spec =
     Inv-loop
     μ-loop
     row-start-requires
+    sub-last
     mul-magnitude
     shared-slice-read-magnitude
     magnitude-requires

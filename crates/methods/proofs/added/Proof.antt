@@ -10,4 +10,4 @@ added-spec =
     tie.close
     (tie.spec
     (λ c κs. search needs)
-    (λ c. rw (c .add .ensures)))
+    (λ c. rw (c .before .add .ensures)))

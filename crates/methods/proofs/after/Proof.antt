@@ -10,4 +10,4 @@ after-spec =
     tie.close
     (tie.spec
     (λ c κs. search needs)
-    (λ c. rw (c .axpy .ensures)))
+    (λ c. rw (c .before .axpy .ensures)))

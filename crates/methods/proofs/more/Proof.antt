@@ -1,6 +1,5 @@
--- `methods::more`: one call. Assumes nothing.
-use borrow.Author.Needs.{needs}
-use Rattle.methods.specs.Parts.{more}
+-- `methods::more`: two calls. Assumes nothing.
+use Rattle.methods.specs.Phi.{more}
 use Rattle.methods.proofs.more.Statement.{statement}
 use Rattle.methods.proofs.more.Tie as tie
 
@@ -9,5 +8,6 @@ unfolding more
 more-spec =
     tie.close
     (tie.spec
-    (λ c κs. search needs)
-    (λ c. rw (c .axpy .ensures)))
+    (λ c κs. tt)
+    (λ c κs. c .before .before .before .pre)
+    (λ c. rw (c .axpy .ensures, c .before .before .before .joined .ensures)))

@@ -4,6 +4,21 @@ use Rattle.methods.proofs.Laws.{phi-ok, phi-bad}
 use Rattle.methods.proofs.phi_into.Statement.{statement}
 use Rattle.methods.proofs.phi_into.Tie as tie
 
+returns : tie.Need-returns
+returns c =
+    let at-if1 = c .before .before in
+    let at-matrix-exp = at-if1 .before .before .before in
+    let at-m = at-matrix-exp .before .before .before .before in
+    let at-augment = at-m .before in
+    phi-ok _ _ _ _ _ _ _ _ _ _ _ (at-augment .augment .ensures) (at-matrix-exp .matrix-exp .ensures) (at-if1 .if1 .taken) (c .column-of .ensures)
+
+returns-2 : tie.Need-returns-2
+returns-2 c =
+    let at-matrix-exp = c .before .before .before in
+    let at-m = at-matrix-exp .before .before .before .before in
+    let at-augment = at-m .before in
+    phi-bad _ _ _ _ _ _ _ _ _ _ (at-augment .augment .ensures) (at-matrix-exp .matrix-exp .ensures) (c .if1 .left)
+
 pub phi-into-spec : {M : Type 1} → statement M
 phi-into-spec =
     tie.close
@@ -13,11 +28,7 @@ phi-into-spec =
     (λ c κs. search needs)
     (λ c. search needs)
     (λ c. search needs)
-    (λ c.
-    let c2 = c .before .before in
-    let c5 = c2 .before .before .before in
-    let c10 = c5 .before .before .before .before .before in
-    phi-ok _ _ _ _ _ _ _ _ _ _ (c10 .augment .ensures) (c5 .matrix-exp .ensures) (c2 .if1 .taken) (c .last-column .ensures))
+    returns
     (λ c. search needs)
     (λ c. search needs)
-    (λ c. phi-bad _ _ _ _ _ _ _ _ _ (c .before .before .before .before .before .before .before .before .augment .ensures) (c .before .before .before .matrix-exp .ensures) (c .if1 .left)))
+    returns-2)

@@ -10,4 +10,4 @@ scaled-spec =
     tie.close
     (tie.spec
     (λ c κs. search needs)
-    (λ c. rw (c .scale .ensures)))
+    (λ c. rw (c .before .scale .ensures)))

@@ -1,69 +1,87 @@
 -- `schemes::chosen`: an arm for each number. Assumes nothing.
-use Prim.Native.Nat.{_≤_}
-use native.Mathlib.Omega.{arith}
-use borrow.Author.Needs.{needs}
-use mathlib.Core.Path.{_≡_}
-use Prim.Native.Nat.{ℕ, suc}
-use mathlib.Core.List.{List}
-use mathlib.Core.Bool.{false}
-use lib.Ieee.{Float}
-use lib.ListN.{List·getD-eq-default}
-use Rattle.matrix.specs.Vector.{zeros}
-use Rattle.methods.specs.declared.Point.{Point}
-use Rattle.methods.specs.Pass.{Stand, fails, done, replay}
 use Rattle.methods.specs.Step.{pass}
+use Rattle.matrix.specs.Vector.{zeros}
+use Rattle.schemes.proofs.None.{no-scheme}
+use Rattle.schemes.proofs.None.{Avoids}
 use Rattle.schemes.proofs.chosen.Statement.{statement}
 use Rattle.schemes.proofs.chosen.Tie as tie
 
--- above 15 there is no scheme
-none : (S : Stand) (k : ℕ) (p : Point) (a au g : List Float) (c j : ℕ) (r : List Float) → 16 ≤ k → S ≡ fails → S ≡ replay (p .n) (pass k p a au g) c j r
-unfolding pass replay
-none S k p a au g c j r h e = rw (List·getD-eq-default _ (done false zeros zeros) h) e
-
-from-0 : (k : ℕ) → 0 ≤ k
-from-0 k = omega arith
-
-up : (k n : ℕ) → n ≤ k → (k ≡ n → ⊥) → suc n ≤ k
-up k n h ne = omega arith
+-- the entry, from later places
+abbrev start-f0 : tie.After-f0 → tie.Start
+start-f0 c = c .before .before .before .before
 
 pub chosen-spec : {M : Type 1} → statement M
-unfolding pass
+unfolding pass zeros Avoids
 chosen-spec =
     tie.close
     (tie.spec
-    (λ c κs. c .before .before .before .before .before .before .pre .0)
-    (λ c κs. c .before .before .before .before .before .before .pre .0)
-    (λ c κs. (c .before .before .before .before .before .before .pre .0, (c .before .before .before .before .before .before .pre .1 .0, c .before .before .before .before .before .before .pre .1 .1 .0)))
-    (λ c κs. (c .before .before .before .before .before .before .pre .0, (c .before .before .before .before .before .before .pre .1 .0, c .before .before .before .before .before .before .pre .1 .1 .0)))
-    (λ c κs. (c .before .before .before .before .before .before .pre .0, (c .before .before .before .before .before .before .pre .1 .0, c .before .before .before .before .before .before .pre .1 .1 .0)))
-    (λ c κs. (c .before .before .before .before .before .before .pre .0, (c .before .before .before .before .before .before .pre .1 .0, c .before .before .before .before .before .before .pre .1 .1 .0)))
-    (λ c κs. (c .before .before .before .before .before .before .pre .0, (c .before .before .before .before .before .before .pre .1 .0, c .before .before .before .before .before .before .pre .1 .1 .0)))
-    (λ c κs. (c .before .before .before .before .before .before .pre .0, (c .before .before .before .before .before .before .pre .1 .0, c .before .before .before .before .before .before .pre .1 .1 .0)))
-    (λ c κs. (c .before .before .before .before .before .before .pre .0, (c .before .before .before .before .before .before .pre .1 .0, c .before .before .before .before .before .before .pre .1 .1 .0)))
-    (λ c κs. (c .before .before .before .before .before .before .pre .0, (c .before .before .before .before .before .before .pre .1 .0, c .before .before .before .before .before .before .pre .1 .1 .0)))
-    (λ c κs. (c .before .before .before .before .before .before .pre .0, (c .before .before .before .before .before .before .pre .1 .0, c .before .before .before .before .before .before .pre .1 .1 .0)))
-    (λ c κs. (c .before .before .before .before .before .before .pre .0, (c .before .before .before .before .before .before .pre .1 .0, c .before .before .before .before .before .before .pre .1 .1 .0)))
-    (λ c κs. (c .before .before .before .before .before .before .pre .0, (c .before .before .before .before .before .before .pre .1 .0, c .before .before .before .before .before .before .pre .1 .1 .0)))
-    (λ c κs. c .before .before .before .before .before .before .pre .0)
-    (λ c κs. c .before .before .before .before .before .before .pre)
-    (λ c κs. (c .before .before .before .before .before .before .pre .0, (c .before .before .before .before .before .before .pre .1 .0, c .before .before .before .before .before .before .pre .1 .1 .0)))
-    (λ c κs. search needs)
-    (λ c. rw (c .before .match .keys1) (c .lawson-euler .ensures _ _ _))
-    (λ c. rw (c .before .match .keys2) (c .norsett-euler .ensures _ _ _))
-    (λ c. rw (c .before .match .keys3) (c .etdrk2 .ensures))
-    (λ c. rw (c .before .match .keys4) (c .etdrk3 .ensures))
-    (λ c. rw (c .before .match .keys5) (c .etdrk4 .ensures))
-    (λ c. rw (c .before .match .keys6) (c .hoch-ost4 .ensures))
-    (λ c. rw (c .before .match .keys7) (c .exp4 .ensures))
-    (λ c. rw (c .before .match .keys8) (c .epirk4s3-a .ensures))
-    (λ c. rw (c .before .match .keys9) (c .epirk4s3-b .ensures))
-    (λ c. rw (c .before .match .keys10) (c .epirk5s3 .ensures))
-    (λ c. rw (c .before .match .keys11) (c .exprb53s3 .ensures))
-    (λ c. rw (c .before .match .keys12) (c .epirk5p1 .ensures))
-    (λ c. rw (c .before .match .keys13) (c .epirk5p2 .ensures))
-    (λ c. rw (c .before .match .keys14) (c .etd2 .ensures _ _ _))
-    (λ c. rw (c .before .match .keys15) (c .exprb32 .ensures))
-    (λ c. rw (c .before .match .keys16) (c .exprb43 .ensures))
+    (λ c κs. start-f0 (c .before .before) .pre .0 .sized)
+    (λ c κs. start-f0 (c .before .before) .pre .0 .sized)
+    (λ c κs. start-f0 (c .before .before) .pre .0)
+    (λ c κs. start-f0 (c .before .before) .pre .0)
+    (λ c κs. start-f0 (c .before .before) .pre .0)
+    (λ c κs. start-f0 (c .before .before) .pre .0)
+    (λ c κs. start-f0 (c .before .before) .pre .0)
+    (λ c κs. start-f0 (c .before .before) .pre .0)
+    (λ c κs. start-f0 (c .before .before) .pre .0)
+    (λ c κs. start-f0 (c .before .before) .pre .0)
+    (λ c κs. start-f0 (c .before .before) .pre .0)
+    (λ c κs. start-f0 (c .before .before) .pre .0)
+    (λ c κs. start-f0 (c .before .before) .pre .0)
+    (λ c κs. start-f0 (c .before .before) .pre .0 .sized)
+    (λ c κs. start-f0 (c .before .before) .pre)
+    (λ c κs. start-f0 (c .before .before) .pre .0)
+    (λ c κs. tt)
+    (λ c κs. tt)
     (λ c.
-    let c1 = c .before in
-    none _ _ _ _ _ _ _ _ _ (up _ 15 (up _ 14 (up _ 13 (up _ 12 (up _ 11 (up _ 10 (up _ 9 (up _ 8 (up _ 7 (up _ 6 (up _ 5 (up _ 4 (up _ 3 (up _ 2 (up _ 1 (up _ 0 (from-0 _) (c1 .match .rest .0 .0 .0 .0 .0 .0 .0 .0 .0 .0 .0 .0 .0 .0 .0 .1)) (c1 .match .rest .0 .0 .0 .0 .0 .0 .0 .0 .0 .0 .0 .0 .0 .0 .1)) (c1 .match .rest .0 .0 .0 .0 .0 .0 .0 .0 .0 .0 .0 .0 .0 .1)) (c1 .match .rest .0 .0 .0 .0 .0 .0 .0 .0 .0 .0 .0 .0 .1)) (c1 .match .rest .0 .0 .0 .0 .0 .0 .0 .0 .0 .0 .0 .1)) (c1 .match .rest .0 .0 .0 .0 .0 .0 .0 .0 .0 .0 .1)) (c1 .match .rest .0 .0 .0 .0 .0 .0 .0 .0 .0 .1)) (c1 .match .rest .0 .0 .0 .0 .0 .0 .0 .0 .1)) (c1 .match .rest .0 .0 .0 .0 .0 .0 .0 .1)) (c1 .match .rest .0 .0 .0 .0 .0 .0 .1)) (c1 .match .rest .0 .0 .0 .0 .0 .1)) (c1 .match .rest .0 .0 .0 .0 .1)) (c1 .match .rest .0 .0 .0 .1)) (c1 .match .rest .0 .0 .1)) (c1 .match .rest .0 .1)) (c1 .match .rest .1)) (c .ended .ensures)))
+    let at-match = c .before in
+    rw (at-match .match .keys1) (c .lawson-euler .ensures _ _ _))
+    (λ c.
+    let at-match = c .before in
+    rw (at-match .match .keys2) (c .norsett-euler .ensures _ _ _))
+    (λ c.
+    let at-match = c .before in
+    rw (at-match .match .keys3) (c .etdrk2 .ensures))
+    (λ c.
+    let at-match = c .before in
+    rw (at-match .match .keys4) (c .etdrk3 .ensures))
+    (λ c.
+    let at-match = c .before in
+    rw (at-match .match .keys5) (c .etdrk4 .ensures))
+    (λ c.
+    let at-match = c .before in
+    rw (at-match .match .keys6) (c .hoch-ost4 .ensures))
+    (λ c.
+    let at-match = c .before in
+    rw (at-match .match .keys7) (c .exp4 .ensures))
+    (λ c.
+    let at-match = c .before in
+    rw (at-match .match .keys8) (c .epirk4s3-a .ensures))
+    (λ c.
+    let at-match = c .before in
+    rw (at-match .match .keys9) (c .epirk4s3-b .ensures))
+    (λ c.
+    let at-match = c .before in
+    rw (at-match .match .keys10) (c .epirk5s3 .ensures))
+    (λ c.
+    let at-match = c .before in
+    rw (at-match .match .keys11) (c .exprb53s3 .ensures))
+    (λ c.
+    let at-match = c .before in
+    rw (at-match .match .keys12) (c .epirk5p1 .ensures))
+    (λ c.
+    let at-match = c .before in
+    rw (at-match .match .keys13) (c .epirk5p2 .ensures))
+    (λ c.
+    let at-match = c .before in
+    rw (at-match .match .keys14) (c .etd2 .ensures _ _ _))
+    (λ c.
+    let at-match = c .before in
+    rw (at-match .match .keys15) (c .exprb32 .ensures))
+    (λ c.
+    let at-match = c .before in
+    rw (at-match .match .keys16) (c .exprb43 .ensures))
+    (λ c.
+    let at-unadmitted = c .before in
+    let at-match = at-unadmitted .before in
+    no-scheme _ _ _ _ _ _ _ _ _ _ (at-match .match .rest) (at-unadmitted .unadmitted .ensures) (c .ended .ensures)))

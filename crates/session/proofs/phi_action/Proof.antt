@@ -23,26 +23,25 @@ phi-action-spec =
     let c2 = c1 .before in
     let k = phi-sized _ _ _ _ _ _ (sym (c2 .phi-fault .ensures) ∙ c1 .if1 .taken) in (k .sized, (k .least, k .most)))
     (λ c κs.
-    let c4 = c .before .before .before .before in
-    let c5 = c4 .before in
-    let c6 = c5 .before in
-    let k = phi-sized _ _ _ _ _ _ (sym (c6 .phi-fault .ensures) ∙ c5 .if1 .taken) in omega (arith, k .places, k .sized .small))
+    let c3 = c .before .before .before in
+    let c6 = c3 .before .before .before in
+    let k = phi-sized _ _ _ _ _ _ (sym (c6 .before .phi-fault .ensures) ∙ c6 .if1 .taken) in omega (arith, k .places, k .sized .small))
     (λ c. search needs)
     (λ c.
     let c2 = c .before .before in
     let c5 = c2 .before .before .before in
-    let c6 = c5 .before in
-    let c7 = c6 .before in
+    let c7 = c5 .before .before in
     let c8 = c7 .before in
     let c9 = c8 .before in
-    let k = phi-sized _ _ _ _ _ _ (sym (c9 .phi-fault .ensures) ∙ c8 .if1 .taken) in
-    rw (← (c9 .phi-fault .ensures), c8 .if1 .taken, ← (c7 .vector .ensures), ← (c6 .phi-action .ensures), c5 .if2 .taken, c2 .copy-out .ensures, k .places))
+    let c10 = c9 .before in
+    let k = phi-sized _ _ _ _ _ _ (sym (c10 .phi-fault .ensures) ∙ c9 .if1 .taken) in
+    rw (← (c10 .phi-fault .ensures), c9 .if1 .taken, ← (c8 .vector .ensures), ← (c7 .phi-action .ensures), c5 .if2 .taken, c2 .copy-out .ensures, k .places))
     (λ c.
-    let c1 = c .before in
-    let c2 = c1 .before in
+    let c2 = c .before .before in
     let c3 = c2 .before in
     let c4 = c3 .before in
-    rw (← (c4 .phi-fault .ensures), c3 .if1 .taken, ← (c2 .vector .ensures), ← (c1 .phi-action .ensures), c .if2 .left))
+    let c5 = c4 .before in
+    rw (← (c5 .phi-fault .ensures), c4 .if1 .taken, ← (c3 .vector .ensures), ← (c2 .phi-action .ensures), c .if2 .left))
     (λ c.
     let c1 = c .before in
     rw (← (c1 .phi-fault .ensures)) (unless-refused _ _ _ (c .if1 .left))))

@@ -1,0 +1,64 @@
+-- `rosenbrock::exprb43`: its pass, up to the question about u2. Assumes nothing.
+use mathlib.Core.Path.{ap, _∙_}
+use Rattle.methods.specs.Numbers.{numbers}
+use Rattle.methods.specs.Schemes.{exprb43}
+use Rattle.rosenbrock.specs.Stages.{exprb43·2, exprb43·3}
+use Rattle.methods.specs.Vectors.{add}
+use Rattle.methods.proofs.Lines.{begin, at-once, checked-line, alone, reported, handed-on}
+use Rattle.methods.proofs.Requires.{order-1, order-3, order-4}
+use Rattle.rosenbrock.proofs.exprb43.Statement.{statement}
+use Rattle.rosenbrock.proofs.exprb43.Tie as tie
+
+-- the entry, from later places
+abbrev start-f1 : tie.After-f1 → tie.Start
+start-f1 c = c .before .before .before .before
+
+abbrev start-phi-action4 : tie.After-phi-action4 → tie.Start
+start-phi-action4 c = start-f1 (c .before .before .before .before)
+
+abbrev start-w1h : tie.After-w1h → tie.Start
+start-w1h c = start-phi-action4 (c .before .before .before .before)
+
+abbrev start-scale : tie.After-scale → tie.Start
+start-scale c = start-w1h (c .before .before .before .before)
+
+returns : tie.Need-returns
+unfolding numbers exprb43 exprb43·2 exprb43·3
+returns c =
+    let at-add = c .before in
+    let at-scale = at-add .before in
+    let at-w1h = at-scale .before .before .before .before in
+    let at-joined3 = at-w1h .before in
+    let at-joined2 = at-joined3 .before in
+    let at-joined = at-joined2 .before in
+    let at-phi-action4 = at-joined .before in
+    let at-phi-action3 = at-phi-action4 .before in
+    let at-phi-action2 = at-phi-action3 .before in
+    let at-phi-action = at-phi-action2 .before in
+    begin _ _ _ _ _
+    (checked-line _ _ _ (at-phi-action .phi-action .ensures)
+    (alone _ _
+    (checked-line _ _ _ (at-phi-action2 .phi-action2 .ensures)
+    (reported _ (at-joined .joined .ensures)
+    (checked-line _ _ _ (at-phi-action3 .phi-action3 .ensures)
+    (reported _ (at-joined2 .joined2 .ensures)
+    (checked-line _ _ _ (at-phi-action4 .phi-action4 .ensures)
+    (reported _ (at-joined3 .joined3 .ensures)
+    (at-once _ _ _ (at-add .add .ensures ∙ ap (add _ _) (at-scale .scale .ensures))
+    (handed-on (c .exprb43-2 .ensures)))))))))))
+
+pub exprb43-spec : {M : Type 1} → statement M
+exprb43-spec =
+    tie.close
+    (tie.spec
+    (λ c κs. (c .before .before .before .before .pre .sized, order-1))
+    (λ c κs. (start-f1 (c .before) .pre .sized, order-1))
+    (λ c κs. (start-f1 (c .before .before) .pre .sized, order-3))
+    (λ c κs. (start-f1 (c .before .before .before) .pre .sized, order-4))
+    (λ c κs. tt)
+    (λ c κs. tt)
+    (λ c κs. tt)
+    (λ c κs. start-w1h (c .before .before .before) .pre .sized .small)
+    (λ c κs. start-scale c .pre .sized .small)
+    (λ c κs. start-scale (c .before) .pre)
+    returns)
