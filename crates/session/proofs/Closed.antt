@@ -6,7 +6,7 @@ use mathlib.Core.Path.{_≡_, refl, sym, ap, _∙_, subst}
 use mathlib.Core.Logic.{_⊎_, inl, inr}
 use mathlib.Core.Bool.{Bool, true, false, cond, _&&_, false≢true}
 use mathlib.Core.List.{List, [], _∷_}
-use lib.Dec.{leb, eqb}
+use lib.Dec.{ltb, leb, eqb}
 use lib.Ieee.{Float, ofBits}
 use lib.ListN.{length, replicate, length-replicate}
 use borrow.Author.Tests.{le-leb, leb-true}
@@ -14,6 +14,7 @@ use Rattle.loops.specs.Loop.{stores, _!_}
 use Rattle.loops.proofs.Stores.{length-stores}
 use Rattle.float.specs.Arith.{_⊕_, zero+, finite, plusZero}
 use Rattle.evaluation.specs.Evaluation.{allFinite}
+use Rattle.methods.specs.Sizes.{places, answersKept, answerRoom, etd2Number}
 use Rattle.methods.specs.Step.{Progress, refused, asking, ended}
 use Rattle.methods.specs.Shape.{Whole}
 use Rattle.session.specs.declared.Session.{Session}
@@ -31,7 +32,7 @@ use Rattle.session.specs.declared.Wants.{Wants}
 use Rattle.session.specs.declared.Wants.the-variants.{Any, Only}
 use Rattle.session.specs.Tests.{fault, condition, unless}
 use Rattle.session.specs.Values.{number, valuesOf, figured}
-use Rattle.session.specs.Session.{Run, joined, fresh, idle, clear, clearAnswers, usedHistory, usedJacobian, stepClear, wanted, wantedBy, admits}
+use Rattle.session.specs.Session.{jacobianRoom, schemes, Run, joined, fresh, idle, clear, clearAnswers, usedHistory, usedJacobian, stepClear, wanted, wantedBy, admits}
 use Rattle.session.specs.Session.{sizeOk, runPlaces, attemptPlaces, good1, historyOk, good2, good7, good4, stepOk, good5, good3, sessionTests, progress}
 use Rattle.session.specs.Calls.{Outcome, outcome, tell, refuse, refuseLent, opened, nothing, begun, rested, answered, moved, readyOf, shown, arrived, settled, attemptOf}
 use Rattle.session.specs.Calls.{vectorTests, attemptTests, beginTests, supplyTests, acceptTests, firstStepTests}
@@ -55,7 +56,7 @@ pub record Good (s : Session) : Type 0 where
   pub step : stepClear (s .attempt) (s .step) ≡ true
   pub jacobian : clear (usedJacobian (s .attempt) (s .n)) (s .jacobian) ≡ true
   pub answers : clearAnswers (s .count) (s .n) (s .answers) ≡ true
-  pub scheme : leb (s .scheme) 15 ≡ true
+  pub scheme : ltb (s .scheme) schemes ≡ true
   pub history : historyOk (s .history) (s .scheme) ≡ true
   pub count : leb (s .count) (wantedBy s) ≡ true
   pub tolerances : good4 s ≡ true
@@ -83,9 +84,9 @@ passed-good wants s e =
     (unfold attemptPlaces in both .1) in
     let head = both-true (stepClear (s .attempt) (s .step)) (clear (usedJacobian (s .attempt) (s .n)) (s .jacobian)) (trial .0) in
     let scheme =
-    both-true (leb (s .scheme) 15 && historyOk (s .history) (s .scheme)) (leb (s .count) (wantedBy s))
+    both-true (ltb (s .scheme) schemes && historyOk (s .history) (s .scheme)) (leb (s .count) (wantedBy s))
     (unfold condition sessionTests good2 in session-row wants s e 2) in
-    let scheme2 = both-true (leb (s .scheme) 15) (historyOk (s .history) (s .scheme)) (scheme .0) in
+    let scheme2 = both-true (ltb (s .scheme) schemes) (historyOk (s .history) (s .scheme)) (scheme .0) in
     let all =
     both-true (finite (s .time) && allFinite (s .state) && allFinite (s .derivative) && allFinite (s .previous) && allFinite (s .jacobian)) (allFinite (s .answers))
     (unfold condition sessionTests good3 in session-row wants s e 3) in
@@ -162,7 +163,7 @@ begun-good s step w j lent g e =
       previous = g .previous;
       step = started w step;
       jacobian = both-true (clear (usedJacobian (attemptOf w) (s .n)) j) (eqb lent (s .n)) (unfold condition attemptTests in row 1) .0;
-      answers = clear-answers-zeros 0 (s .n) 320;
+      answers = clear-answers-zeros 0 (s .n) answerRoom;
       scheme = g .scheme;
       history = g .history;
       count = le-leb 0 (wanted (s .scheme) (s .n) (attemptOf w)) (omega arith);
@@ -173,11 +174,11 @@ begun-good s step w j lent g e =
       derivative-finite = g .derivative-finite;
       previous-finite = g .previous-finite;
       jacobian-finite = unfold condition attemptTests in row 3;
-      answers-finite = finite-zeros 320;
+      answers-finite = finite-zeros answerRoom;
     }
 
-pub answered-good : (s : Session) (x : List Float) (lent : Bool) → length x ≡ 16 → length (s .answers) ≡ 320 → Good s
-    → s .count < 20 → s .count < wantedBy s → fault (vectorTests (s .n) x lent) ≡ 0 → Good (answered s x)
+pub answered-good : (s : Session) (x : List Float) (lent : Bool) → length x ≡ places → length (s .answers) ≡ answerRoom → Good s
+    → s .count < answersKept → s .count < wantedBy s → fault (vectorTests (s .n) x lent) ≡ 0 → Good (answered s x)
 unfolding answered good4
 answered-good s x lent sixteen room g few more e =
     let row = vector-row (s .n) x lent e in
@@ -210,7 +211,7 @@ pub record GoodRun (r : Run) : Type 0 where
   pub state : clear (r .n) (r .state) ≡ true
   pub derivative : clear (r .n) (r .derivative) ≡ true
   pub previous : clear (usedHistory (r .history) (r .n)) (r .previous) ≡ true
-  pub scheme : leb (r .scheme) 15 ≡ true
+  pub scheme : ltb (r .scheme) schemes ≡ true
   pub history : historyOk (r .history) (r .scheme) ≡ true
   pub tolerances : good4 (opened r) ≡ true
   pub time-finite : finite (r .time) ≡ true
@@ -230,8 +231,8 @@ opened-good r g = record {
   derivative = g .derivative;
   previous = g .previous;
   step = zero-clear;
-  jacobian = clear-zeros 0 256;
-  answers = clear-answers-zeros 0 (r .n) 320;
+  jacobian = clear-zeros 0 jacobianRoom;
+  answers = clear-answers-zeros 0 (r .n) answerRoom;
   scheme = g .scheme;
   history = g .history;
   count = refl;
@@ -241,8 +242,8 @@ opened-good r g = record {
   state-finite = g .state-finite;
   derivative-finite = g .derivative-finite;
   previous-finite = g .previous-finite;
-  jacobian-finite = finite-zeros 256;
-  answers-finite = finite-zeros 320;
+  jacobian-finite = finite-zeros jacobianRoom;
+  answers-finite = finite-zeros answerRoom;
 }
 
 pub rested-good : (s : Session) → Good s → Good (rested s)
@@ -272,7 +273,7 @@ module _ (s : Session) (g : List Float) (good : Good s) (G : Whole (s .n) g) whe
   kept-finite true = G .numbers
   kept-finite false = good .previous-finite
 
-  kept-allowed : (b : Bool) → eqb (s .scheme) 13 ≡ b → historyOk (cond b Held (s .history)) (s .scheme) ≡ true
+  kept-allowed : (b : Bool) → eqb (s .scheme) etd2Number ≡ b → historyOk (cond b Held (s .history)) (s .scheme) ≡ true
   kept-allowed true e = unfold historyOk in e
   kept-allowed false e = good .history
 
@@ -285,14 +286,14 @@ moved-good s time x f g good t X G e =
       size = good .size;
       state = vector-clear (X .vector);
       derivative = both-true (clear (s .n) f) true (unfold condition vectorTests in row 1) .0;
-      previous = kept-clear s g good G (eqb (s .scheme) 13);
+      previous = kept-clear s g good G (eqb (s .scheme) etd2Number);
       scheme = good .scheme;
-      history = kept-allowed s g good G (eqb (s .scheme) 13) refl;
+      history = kept-allowed s g good G (eqb (s .scheme) etd2Number) refl;
       tolerances = good .tolerances;
       time-finite = t;
       state-finite = X .numbers;
       derivative-finite = unfold condition vectorTests in row 3;
-      previous-finite = kept-finite s g good G (eqb (s .scheme) 13);
+      previous-finite = kept-finite s g good G (eqb (s .scheme) etd2Number);
     })
 
 -- ---- a call that is accepted
@@ -343,7 +344,7 @@ begin-good s step w j o =
     let p = begin-passes s step (attemptOf w) j (length o) e in
     shown-good s next o (progress next) (begun-good s step w j (length o) (passed-good (Only Rest) s (p .0)) (p .1)))
 
-supply-good : (s : Session) (x o : List Float) → length x ≡ 16 → length (s .answers) ≡ 320 → number (supplyCall s x o .told .answer) ≡ 0 → Good (supplyCall s x o .told .session)
+supply-good : (s : Session) (x o : List Float) → length x ≡ places → length (s .answers) ≡ answerRoom → number (supplyCall s x o .told .answer) ≡ 0 → Good (supplyCall s x o .told .session)
 unfolding supplyCall
 supply-good s x o sixteen room =
     let next = answered s x in
@@ -367,7 +368,7 @@ first-good : (s : Session) (largest : Float) → number (firstStepCall s largest
 unfolding firstStepCall
 first-good s largest = told-good (fault (firstStepTests s largest)) s _ (λ e _. passed-good Any s (first-step-passes s largest e))
 
-performed-good : (c : Call) (s : Session) → TypedCall c → length (s .answers) ≡ 320 → number (perform c s .told .answer) ≡ 0 → Good (perform c s .told .session)
+performed-good : (c : Call) (s : Session) → TypedCall c → length (s .answers) ≡ answerRoom → number (perform c s .told .answer) ≡ 0 → Good (perform c s .told .session)
 unfolding perform TypedCall
 performed-good (begin step w j o) s t room = begin-good s step w j o
 performed-good (supply x o) s t room = supply-good s x o t room
@@ -378,11 +379,11 @@ performed-good (firstStep largest) s t room = first-good s largest
 -- ---- the answers keep their room
 
 abbrev pub Room : Session → Type 0
-Room s = length (s .answers) ≡ 320
+Room s = length (s .answers) ≡ answerRoom
 
 opened-room : (r : Run) → Room (opened r)
 unfolding opened idle fresh
-opened-room r = length-replicate 320 zero+
+opened-room r = length-replicate answerRoom zero+
 
 shown-room : (old s : Session) (o : List Float) (p : Progress) → Room old → Room s → Room (shown old s o p .told .session)
 unfolding shown
@@ -408,11 +409,11 @@ lent-room k s o r h f = unless-either k (refuseLent s o) r (λ r. Room (r .told 
 
 begun-room : (s : Session) (step : Float) (a : Attempt) (j : List Float) → Room (begun s step a j)
 unfolding begun fresh
-begun-room s step a j = length-replicate 320 zero+
+begun-room s step a j = length-replicate answerRoom zero+
 
 answered-room : (s : Session) (x : List Float) → Room s → Room (answered s x)
 unfolding answered
-answered-room s x h = length-stores _ (16 * s .count) 16 (s .answers) ∙ h
+answered-room s x h = length-stores _ (places * s .count) places (s .answers) ∙ h
 
 performed-room : (c : Call) (s : Session) → Room s → Room (perform c s .told .session)
 unfolding perform beginCall supplyCall acceptCall dropCall firstStepCall

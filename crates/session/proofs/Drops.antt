@@ -11,6 +11,7 @@ use lib.ListN.{length, replicate}
 use borrow.Author.Tests.{leb-true}
 use Rattle.loops.specs.Loop.{every, _!_}
 use Rattle.float.specs.Arith.{zero+, epsilon, plusZero}
+use Rattle.methods.specs.Sizes.{answerRoom}
 use Rattle.methods.specs.Step.{Progress, refused, asking, ended}
 use Rattle.engine.specs.Claims.{Between}
 use Rattle.engine.proofs.FirstStep.{first-step-told}
@@ -26,7 +27,7 @@ use Rattle.session.specs.declared.Wants.{Wants}
 use Rattle.session.specs.declared.Wants.the-variants.{Any, Only}
 use Rattle.session.specs.Tests.{Tests, fault, condition, numbered, unless}
 use Rattle.session.specs.Values.{number, valuesOf, figured}
-use Rattle.session.specs.Session.{Run, Trial, joined, runOf, trialOf, fresh, idle, clear, inAnswers, clearAnswers, usedJacobian, stepClear, wanted, wantedBy}
+use Rattle.session.specs.Session.{jacobianRoom, Run, Trial, joined, runOf, trialOf, fresh, idle, clear, inAnswers, clearAnswers, usedJacobian, stepClear, wanted, wantedBy}
 use Rattle.session.specs.Session.{phaseWith, phaseAt, phaseOf, phaseNumber, admits, sizeOk, good1, good7, sessionTests, progress}
 use Rattle.session.specs.Calls.{Outcome, outcome, tell, refuse, refuseLent, opened, nothing, begun, rested, answered, readyOf, shown, attemptOf}
 use Rattle.session.specs.Calls.{beginTests, supplyTests, acceptTests, firstStepTests, largestTests, beginCall, supplyCall, acceptCall, dropCall, firstStepCall}
@@ -72,10 +73,10 @@ idle-trial s t e =
     let none : s .attempt ≡ None = resting-none (s .attempt) (ltb (s .count) (wantedBy s)) (unfold phaseOf phaseNumber in in-phase Rest s e) in
     let count : s .count ≡ 0 = none-count (trialOf s) none (s .scheme) (s .n) (leb-true (s .count) (wantedBy s) (g .count)) in
     let step : s .step ≡ zero+ = plus-zero-is (s .step) (t .step) (none-step (trialOf s) none (g .step)) in
-    let jacobian : s .jacobian ≡ replicate 256 zero+ =
-    nothing-in 256 (s .jacobian) (t .jacobian) (λ i l. none-jacobian (trialOf s) none (s .n) (g .jacobian) i (omega (arith, t .jacobian .places))) in
-    let answers : s .answers ≡ replicate 320 zero+ =
-    nothing-in 320 (s .answers) (t .answers) (λ i l. none-answers (s .n) (s .answers) (rw count at (g .answers)) i (omega (arith, t .answers .places))) in
+    let jacobian : s .jacobian ≡ replicate jacobianRoom zero+ =
+    nothing-in jacobianRoom (s .jacobian) (t .jacobian) (λ i l. none-jacobian (trialOf s) none (s .n) (g .jacobian) i (omega (arith, t .jacobian .places))) in
+    let answers : s .answers ≡ replicate answerRoom zero+ =
+    nothing-in answerRoom (s .answers) (t .answers) (λ i l. none-answers (s .n) (s .answers) (rw count at (g .answers)) i (omega (arith, t .answers .places))) in
     λ i. record { attempt = none i; step = step i; jacobian = jacobian i; count = count i; answers = answers i }
 
 rested-same : (s : Session) → Typed s → fault (sessionTests (Only Rest) s) ≡ 0 → rested s ≡ s

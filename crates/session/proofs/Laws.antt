@@ -1,7 +1,8 @@
 -- What follows from tests that passed, and what is told of an attempt. Assumes nothing.
 use Rattle.methods.specs.Step.{questions, Progress, refused, progress as reached, progressKind}
 use Rattle.session.specs.Tests.{Tests, fault, condition, numbered, unless}
-use Rattle.session.specs.Session.{Run, joined, trialOf, fresh, wanted, wantedBy, phaseWith, phaseAt, phaseOf, phaseNumber, admits, sizeOk, runPlaces, attemptPlaces, good1, historyOk, good2, good7, sessionTests, usedJacobian, Sound, clear}
+use Rattle.session.specs.Session.{schemes, largest, Run, joined, trialOf, fresh, wanted, wantedBy, phaseWith, phaseAt, phaseOf, phaseNumber, admits, sizeOk, runPlaces, attemptPlaces, good1, historyOk, good2, good7, sessionTests, usedJacobian, Sound, clear}
+use Rattle.methods.specs.Sizes.{answersKept}
 use Rattle.methods.specs.Vectors.{Sized}
 use Rattle.session.specs.Bare.{exponentialTests, phiTests, normTests}
 use Rattle.session.specs.Calls.{Outcome, outcome, tell, refuse, refuseLent, opened, nothing, openCall, begun, answered, attemptOf, vectorTests, attemptTests, beginTests, supplyTests, acceptTests, firstStepTests, shown, arrived, settled, answerOf}
@@ -47,7 +48,7 @@ pub questions-small : (k : ℕ) → questions k ≤ 4
 unfolding questions allSmall
 questions-small k = small-at (0 ∷ 0 ∷ 1 ∷ 2 ∷ 3 ∷ 4 ∷ 2 ∷ 2 ∷ 2 ∷ 2 ∷ 2 ∷ 2 ∷ 2 ∷ 0 ∷ 1 ∷ 2 ∷ []) refl k
 
-pub wanted-small : (k n : ℕ) (a : Attempt) → n ≤ 16 → wanted k n a ≤ 20
+pub wanted-small : (k n : ℕ) (a : Attempt) → n ≤ 16 → wanted k n a ≤ answersKept
 unfolding wanted
 wanted-small k n None h = omega arith
 wanted-small k n Supplied h = omega (arith, questions-small k)
@@ -64,12 +65,12 @@ pub good1-size : (s : Session) → good1 s ≡ true → (1 ≤ s .n) × (s .n �
 unfolding good1 sizeOk
 good1-size s e = size-both (s .n) (good-size (sizeOk (s .n)) (runPlaces s && attemptPlaces s) e)
 
-good2-parts : (s : Session) → good2 s ≡ true → (s .scheme ≤ 15) × (s .count ≤ wantedBy s)
+good2-parts : (s : Session) → good2 s ≡ true → (s .scheme < schemes) × (s .count ≤ wantedBy s)
 unfolding good2
 good2-parts s e =
-    let a = both-true (leb (s .scheme) 15 && historyOk (s .history) (s .scheme)) (leb (s .count) (wantedBy s)) e in
-    let b = both-true (leb (s .scheme) 15) (historyOk (s .history) (s .scheme)) (a .0) in
-    (leb-true (s .scheme) 15 (b .0), leb-true (s .count) (wantedBy s) (a .1))
+    let a = both-true (ltb (s .scheme) schemes && historyOk (s .history) (s .scheme)) (leb (s .count) (wantedBy s)) e in
+    let b = both-true (ltb (s .scheme) schemes) (historyOk (s .history) (s .scheme)) (a .0) in
+    (ltb-true (s .scheme) schemes (b .0), leb-true (s .count) (wantedBy s) (a .1))
 
 -- ---- sessions that are not refused
 
@@ -103,7 +104,7 @@ asking-more Differenced false e = absurd (omega (arith, e))
 pub wants-more : (s : Session) → fault (sessionTests (Only Asking) s) ≡ 0 → s .count < wantedBy s
 wants-more s e = ltb-true (s .count) (wantedBy s) (asking-more (s .attempt) _ (unfold phaseOf phaseNumber in in-phase Asking s e))
 
-pub few-answers : (s : Session) → fault (sessionTests (Only Asking) s) ≡ 0 → s .count < 20
+pub few-answers : (s : Session) → fault (sessionTests (Only Asking) s) ≡ 0 → s .count < answersKept
 few-answers s e = omega (arith, wants-more s e, wanted-small (s .scheme) (s .n) (s .attempt) (fault-none (Only Asking) s e .small))
 
 -- what is handed in is tested where the session passes

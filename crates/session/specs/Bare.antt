@@ -15,7 +15,7 @@ use Rattle.engine.specs.Engine.{errorNorm}
 use Rattle.session.specs.declared.Answer.{Answer}
 use Rattle.session.specs.declared.Answer.the-variants.{Filled, Norm, Refused}
 use Rattle.session.specs.Tests.{Tests, fault, unless}
-use Rattle.session.specs.Session.{sizeOk, clear, positive}
+use Rattle.session.specs.Session.{largest, sizeOk, clear, positive}
 
 -- what a bare call tells, and what it leaves in the lent output
 pub record Bare : Type 0 where
@@ -32,7 +32,7 @@ refuseBare out k = bare (Refused k) out
 -- a matrix of size 1 to 20 and an output of as many places
 unfoldable pub exponentialTests : ℕ → List Float → ℕ → Tests
 exponentialTests size m lent =
-    ((leb 1 size && leb size 20) && (eqb (length m) (size * size) && eqb lent (size * size)), 1) ∷ (allFinite m, 3) ∷ []
+    ((leb 1 size && leb size largest) && (eqb (length m) (size * size) && eqb lent (size * size)), 1) ∷ (allFinite m, 3) ∷ []
 
 unfoldable pub exponentialCall : ℕ → List Float → List Float → Bare
 exponentialCall size m out =

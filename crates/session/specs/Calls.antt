@@ -8,6 +8,7 @@ use lib.ListN.{length, replicate}
 use Rattle.loops.specs.Loop.{tab, stores, _!_}
 use Rattle.float.specs.Arith.{_⊕_, zero+, epsilon, finite}
 use Rattle.evaluation.specs.Evaluation.{allFinite}
+use Rattle.methods.specs.Sizes.{places, etd2Number, exprb32Number, exprb43Number}
 use Rattle.methods.specs.declared.Kind.{Kind}
 use Rattle.methods.specs.declared.Kind.the-variants.{Question, Done}
 use Rattle.methods.specs.Step.{Progress, refused, asking, ended}
@@ -61,12 +62,12 @@ nothing =
       scheme = 0;
       n = 0;
       time = zero+;
-      state = replicate 16 zero+;
-      derivative = replicate 16 zero+;
+      state = replicate places zero+;
+      derivative = replicate places zero+;
       relative = zero+;
       absolute = zero+;
       history = Missing;
-      previous = replicate 16 zero+;
+      previous = replicate places zero+;
     })
 
 -- the run of s with another attempt, which has no answer yet
@@ -85,10 +86,10 @@ answered s answer =
       step = s .step;
       jacobian = s .jacobian;
       count = s .count + 1;
-      answers = stores (λ i _. answer ! i) (16 * s .count) 16 (s .answers);
+      answers = stores (λ i _. answer ! i) (places * s .count) places (s .answers);
     })
 
--- s moved to a time and a state; Etd2, scheme 13, keeps the nonlinear part
+-- s moved to a time and a state; Etd2 keeps the nonlinear part
 unfoldable pub moved : Session → Float → List Float → List Float → List Float → Session
 moved s time state derivative nonlinear =
     opened (record {
@@ -99,15 +100,15 @@ moved s time state derivative nonlinear =
       derivative = derivative;
       relative = s .relative;
       absolute = s .absolute;
-      history = cond (eqb (s .scheme) 13) Held (s .history);
-      previous = cond (eqb (s .scheme) 13) nonlinear (s .previous);
+      history = cond (eqb (s .scheme) etd2Number) Held (s .history);
+      previous = cond (eqb (s .scheme) etd2Number) nonlinear (s .previous);
     })
 
 -- ---- answers
 
 -- Exprb32 and Exprb43 have an error vector
 unfoldable pub hasError : ℕ → Bool
-hasError scheme = eqb scheme 14 || eqb scheme 15
+hasError scheme = eqb scheme exprb32Number || eqb scheme exprb43Number
 
 -- Ready with the error norm and the counts: right-hand sides, and one Jacobian
 unfoldable pub readyOf : Session → List Float → List Float → Answer

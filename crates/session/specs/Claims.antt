@@ -7,6 +7,7 @@ use lib.Dec.{T}
 use lib.Ieee.{Float, binary64, fits, isNan}
 use lib.ListN.{length}
 use Rattle.loops.specs.Loop.{_!_}
+use Rattle.methods.specs.Sizes.{places, answerRoom}
 use Rattle.methods.specs.Step.{asking}
 use Rattle.engine.specs.Claims.{Between}
 use Rattle.session.specs.declared.Session.{Session}
@@ -19,7 +20,7 @@ use Rattle.session.specs.declared.Wants.{Wants}
 use Rattle.session.specs.declared.Wants.the-variants.{Any, Only}
 use Rattle.session.specs.Tests.{fault}
 use Rattle.session.specs.Values.{number}
-use Rattle.session.specs.Session.{Run, wantedBy, good7, sessionTests, progress}
+use Rattle.session.specs.Session.{Run, jacobianRoom, wantedBy, good7, sessionTests, progress}
 use Rattle.session.specs.Calls.{tell, nothing, openCall, beginCall, supplyCall, dropCall, firstStepCall}
 use Rattle.session.specs.Bare.{normCall}
 use Rattle.session.specs.Runs.{Call, begin, supply, accept, drop, firstStep, perform, after}
@@ -33,14 +34,14 @@ pub record Doubles (size : ℕ) (x : List Float) : Type 0 where
 pub record Typed (s : Session) : Type 0 where
   pub absolute : T (fits binary64 (s .absolute))
   pub step : T (fits binary64 (s .step))
-  pub state : length (s .state) ≡ 16
-  pub jacobian : Doubles 256 (s .jacobian)
-  pub answers : Doubles 320 (s .answers)
+  pub state : length (s .state) ≡ places
+  pub jacobian : Doubles jacobianRoom (s .jacobian)
+  pub answers : Doubles answerRoom (s .answers)
 
 -- a supplied answer has sixteen places
 unfoldable pub TypedCall : Call → Type 0
 TypedCall (begin step wish jacobian out) = Unit
-TypedCall (supply answer out) = length answer ≡ 16
+TypedCall (supply answer out) = length answer ≡ places
 TypedCall (accept derivative) = Unit
 TypedCall drop = Unit
 TypedCall (firstStep largest) = Unit
@@ -76,7 +77,7 @@ Closed s = (wants : Wants) → fault (sessionTests wants s) ≡ cond (good7 want
 
 pub record Closes : Type 0 where
   pub opens : (r : Run) → number (openCall r .answer) ≡ 0 → Closed (openCall r .session)
-  pub call : (c : Call) (s : Session) → TypedCall c → length (s .answers) ≡ 320 → number (perform c s .told .answer) ≡ 0 → Closed (perform c s .told .session)
+  pub call : (c : Call) (s : Session) → TypedCall c → length (s .answers) ≡ answerRoom → number (perform c s .told .answer) ≡ 0 → Closed (perform c s .told .session)
   -- so no call of a run from an accepted opening on meets 1 to 5 because of the session
   pub run : (r : Run) (cs : List Call) → number (openCall r .answer) ≡ 0 → TypedCalls cs → Closed (after (openCall r .session) cs)
 
@@ -107,10 +108,10 @@ FirstSteps =
 
 -- for every session whose absolute tolerance is a double and whose state has 16 places, as the code's have, and whatever is handed in
 pub record Norms : Type 0 where
-  pub begin : (s : Session) (step : Float) (wish : Wish) (jacobian out : List Float) → T (fits binary64 (s .absolute)) → length (s .state) ≡ 16
+  pub begin : (s : Session) (step : Float) (wish : Wish) (jacobian out : List Float) → T (fits binary64 (s .absolute)) → length (s .state) ≡ places
       → (norm : Float) (rhs jacobians : ℕ) → beginCall s step wish jacobian out .told .answer ≡ Ready norm rhs jacobians → isNan norm ≡ false
-  pub supply : (s : Session) (answer out : List Float) → T (fits binary64 (s .absolute)) → length (s .state) ≡ 16
+  pub supply : (s : Session) (answer out : List Float) → T (fits binary64 (s .absolute)) → length (s .state) ≡ places
       → (norm : Float) (rhs jacobians : ℕ) → supplyCall s answer out .told .answer ≡ Ready norm rhs jacobians → isNan norm ≡ false
   pub bare : (n : ℕ) (relative absolute : Float) (error state candidate : List Float)
-      → T (fits binary64 absolute) → length error ≡ 16 → length state ≡ 16 → length candidate ≡ 16
+      → T (fits binary64 absolute) → length error ≡ places → length state ≡ places → length candidate ≡ places
       → (norm : Float) → normCall n relative absolute error state candidate ≡ Norm norm → isNan norm ≡ false

@@ -1,5 +1,5 @@
 -- A session, what a call refuses it for, and how far its attempt has come. Definitions only.
-use Prim.Native.Nat.{ℕ, _+_, _-_, _*_, _/_, _%_, _≤_}
+use Prim.Native.Nat.{ℕ, _+_, _-_, _*_, _/_, _%_, _≤_, _<_}
 use mathlib.Core.Bool.{Bool, true, false, cond, not, _&&_, _||_}
 use mathlib.Core.List.{List, [], _∷_}
 use lib.Dec.{ltb, leb, eqb}
@@ -8,6 +8,7 @@ use lib.ListN.{length, replicate, take}
 use Rattle.loops.specs.Loop.{every, mat, _!_}
 use Rattle.float.specs.Arith.{zero+, finite, plusZero}
 use Rattle.evaluation.specs.Evaluation.{allFinite}
+use Rattle.methods.specs.Sizes.{places, answerRoom, etd2Number}
 use Rattle.methods.specs.declared.Point.{Point}
 use Rattle.methods.specs.Step.{Progress, refused, asking, questions, performStep}
 use Rattle.engine.specs.Engine.{perturbed, jacobianEntry, columnOk}
@@ -21,6 +22,20 @@ use Rattle.session.specs.declared.Phase.the-variants.{Rest, Asking, Wait
 use Rattle.session.specs.declared.Wants.{Wants}
 use Rattle.session.specs.declared.Wants.the-variants.{Any, Only}
 use Rattle.session.specs.Tests.{Tests}
+
+-- ---- sizes that the session adds to those of methods/specs/Sizes.antt; the code has each as a const of the same value
+
+-- the room of a Jacobian: JACOBIAN
+abbrev pub jacobianRoom : ℕ
+jacobianRoom = places * places
+
+-- how many schemes there are: SCHEMES
+abbrev pub schemes : ℕ
+schemes = 16
+
+-- the largest matrix that is exponentiated: LARGEST
+abbrev pub largest : ℕ
+largest = 20
 
 -- ---- a session is a run and its attempt
 
@@ -81,11 +96,11 @@ trialOf s = record { attempt = s .attempt; step = s .step; jacobian = s .jacobia
 
 -- an attempt that has no answer yet
 unfoldable pub fresh : Attempt → Float → List Float → Trial
-fresh attempt step jacobian = record { attempt = attempt; step = step; jacobian = jacobian; count = 0; answers = replicate 320 zero+ }
+fresh attempt step jacobian = record { attempt = attempt; step = step; jacobian = jacobian; count = 0; answers = replicate answerRoom zero+ }
 
 -- no attempt
 unfoldable pub idle : Trial
-idle = fresh None zero+ (replicate 256 zero+)
+idle = fresh None zero+ (replicate jacobianRoom zero+)
 
 -- ---- places in use
 
@@ -93,9 +108,9 @@ idle = fresh None zero+ (replicate 256 zero+)
 unfoldable pub clear : ℕ → List Float → Bool
 clear used x = every (length x) (λ p. ltb p used || plusZero (x ! p))
 
--- place p holds an entry of an answer: answer k begins at 16 k
+-- place p holds an entry of an answer: answer k begins at place 16 k
 abbrev pub inAnswers : ℕ → ℕ → ℕ → Bool
-inAnswers count n p = ltb (p / 16) count && ltb (p % 16) n
+inAnswers count n p = ltb (p / places) count && ltb (p % places) n
 
 -- the places that hold no entry of an answer are +0.0
 unfoldable pub clearAnswers : ℕ → ℕ → List Float → Bool
@@ -156,7 +171,7 @@ admits (Only one) phase = eqb (phaseNumber one) (phaseNumber phase)
 
 -- a dimension is 1 to 16
 unfoldable pub sizeOk : ℕ → Bool
-sizeOk n = leb 1 n && leb n 16
+sizeOk n = leb 1 n && leb n places
 
 -- 1, of the run
 unfoldable pub runPlaces : Session → Bool
@@ -170,14 +185,14 @@ attemptPlaces s = stepClear (s .attempt) (s .step) && clear (usedJacobian (s .at
 unfoldable pub good1 : Session → Bool
 good1 s = cond (sizeOk (s .n)) (runPlaces s && attemptPlaces s) false
 
--- only Etd2, scheme 13, has a history
+-- only Etd2 has a history
 unfoldable pub historyOk : History → ℕ → Bool
 historyOk Missing scheme = true
-historyOk Held scheme = eqb scheme 13
+historyOk Held scheme = eqb scheme etd2Number
 
 -- 2: the scheme, its history, and no more answers than are asked for
 unfoldable pub good2 : Session → Bool
-good2 s = leb (s .scheme) 15 && historyOk (s .history) (s .scheme) && leb (s .count) (wantedBy s)
+good2 s = ltb (s .scheme) schemes && historyOk (s .history) (s .scheme) && leb (s .count) (wantedBy s)
 
 -- 7: the phase that the call wants
 unfoldable pub good7 : Wants → Session → Bool
@@ -219,8 +234,8 @@ sessionTests wants s =
 -- what every session that is not refused has
 pub record Sound (s : Session) : Type 0 where
   pub some : 1 ≤ s .n
-  pub small : s .n ≤ 16
-  pub scheme : s .scheme ≤ 15
+  pub small : s .n ≤ places
+  pub scheme : s .scheme < schemes
   pub enough : s .count ≤ wantedBy s
 
 -- ---- the attempt, as far as its answers go

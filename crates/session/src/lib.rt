@@ -4,6 +4,7 @@ ghost use mathlib.Core.Path.{_≡_};
 ghost use Prim.Native.Nat.{ℕ, _+_, _-_, _*_, _≤_, _<_};
 ghost use lib.ListN.{length, take};
 ghost use Rattle.loops.specs.Loop.{mat};
+ghost use Rattle.methods.specs.Sizes.{places, answersKept, answerRoom};
 ghost use Rattle.methods.specs.Step.{refused, performStep};
 ghost use Rattle.methods.specs.Step.{progress as reached};
 ghost use Rattle.engine.specs.Engine.{jacobianEntry};
@@ -17,6 +18,19 @@ ghost use Rattle.session.specs.Calls.{openCall, beginCall, supplyCall, a
 ghost use Rattle.session.specs.Bare.{bare, exponentialTests, exponentialCall, phiTests, phiCall, normTests, normCall};
 
 mod places;
+
+use methods::ETD2;
+use methods::EXPRB32;
+use methods::EXPRB43;
+use methods::PLACES;
+use methods::ROOM;
+
+// The room of a Jacobian, row by row.
+pub const JACOBIAN: usize = PLACES * PLACES;
+// How many schemes there are.
+pub const SCHEMES: u8 = 16;
+// The size of the largest matrix that is exponentiated.
+pub const LARGEST: usize = 20;
 
 // Whether there is an Etd2 history.
 pub enum History {
@@ -54,17 +68,17 @@ pub struct Session {
     pub scheme: u8,
     pub n: usize,
     pub time: f64,
-    pub state: [f64; 16],
-    pub derivative: [f64; 16],
+    pub state: [f64; PLACES],
+    pub derivative: [f64; PLACES],
     pub relative: f64,
     pub absolute: f64,
     pub history: History,
-    pub previous: [f64; 16],
+    pub previous: [f64; PLACES],
     pub attempt: Attempt,
     pub step: f64,
-    pub jacobian: [f64; 256],
+    pub jacobian: [f64; JACOBIAN],
     pub count: usize,
-    pub answers: [f64; 320],
+    pub answers: [f64; ROOM],
 }
 
 // An answer, and the session that comes back.
@@ -90,8 +104,8 @@ pub enum Wants {
 
 // How many answers an attempt asks for.
 fn wanted(scheme: u8, n: usize, attempt: Attempt) -> usize
-    requires { ⌜ n ≤ 16 ⌝ }
-    ensures { λ r. ⌜ (r ≡ wanted scheme n attempt) × (r ≤ 20) ⌝ }
+    requires { ⌜ n ≤ places ⌝ }
+    ensures { λ r. ⌜ (r ≡ wanted scheme n attempt) × (r ≤ answersKept) ⌝ }
 {
     match attempt {
         Attempt::None => 0,
@@ -110,7 +124,7 @@ fn used_history(h: History, n: usize) -> usize
 }
 
 fn used_jacobian(a: Attempt, n: usize) -> usize
-    requires { ⌜ n ≤ 16 ⌝ }
+    requires { ⌜ n ≤ places ⌝ }
     ensures { λ r. ⌜ r ≡ usedJacobian a n ⌝ }
 {
     match a {
@@ -144,7 +158,7 @@ fn run_places(s: Session) -> bool
 }
 
 fn attempt_places(s: Session) -> bool
-    requires { ⌜ s .n ≤ 16 ⌝ }
+    requires { ⌜ s .n ≤ places ⌝ }
     ensures { λ r. ⌜ r ≡ attemptPlaces s ⌝ }
 {
     let n = s.n;
@@ -160,7 +174,7 @@ fn good1(s: Session) -> bool
     ensures { λ r. ⌜ r ≡ good1 s ⌝ }
 {
     let n = s.n;
-    if (1 <= n) & (n <= 16) {
+    if (1 <= n) & (n <= PLACES) {
         return run_places(s) & attempt_places(s);
     }
     false
@@ -171,17 +185,19 @@ fn history_ok(h: History, scheme: u8) -> bool
 {
     match h {
         History::Missing => true,
-        History::Held => scheme == 13,
+        History::Held => scheme == ETD2,
     }
 }
 
 fn good2(s: Session) -> bool
-    requires { ⌜ s .n ≤ 16 ⌝ }
+    requires { ⌜ s .n ≤ places ⌝ }
     ensures { λ r. ⌜ r ≡ good2 s ⌝ }
 {
     let history = s.history;
     let attempt = s.attempt;
-    (s.scheme <= 15) & history_ok(history, s.scheme) & (s.count <= wanted(s.scheme, s.n, attempt))
+    (s.scheme < SCHEMES)
+        & history_ok(history, s.scheme)
+        & (s.count <= wanted(s.scheme, s.n, attempt))
 }
 
 fn phase_number(p: Phase) -> u8
@@ -201,7 +217,7 @@ fn phase_with(more: bool) -> Phase
 }
 
 fn phase_of(s: Session) -> Phase
-    requires { ⌜ s .n ≤ 16 ⌝ }
+    requires { ⌜ s .n ≤ places ⌝ }
     ensures { λ r. ⌜ r ≡ phaseOf s ⌝ }
 {
     let attempt = s.attempt;
@@ -223,7 +239,7 @@ fn admits(wants: Wants, phase: Phase) -> bool
 }
 
 fn good7(wants: Wants, s: Session) -> bool
-    requires { ⌜ s .n ≤ 16 ⌝ }
+    requires { ⌜ s .n ≤ places ⌝ }
     ensures { λ r. ⌜ r ≡ good7 wants s ⌝ }
 {
     admits(wants, phase_of(s))
@@ -301,7 +317,7 @@ fn session_fault(wants: Wants, s: Session) -> u8
 
 // ---- what is refused of what is handed in
 
-fn vector_fault(n: usize, x: [f64; 16], lent: bool) -> u8
+fn vector_fault(n: usize, x: [f64; PLACES], lent: bool) -> u8
     ensures { λ r. ⌜ r ≡ fault (vectorTests n x lent) ⌝ }
 {
     if !(places::clear(&x, n) & lent) {
@@ -322,8 +338,8 @@ fn attempt_of(w: Wish) -> Attempt
     }
 }
 
-fn attempt_fault(n: usize, step: f64, a: Attempt, jacobian: [f64; 256], lent: usize) -> u8
-    requires { ⌜ n ≤ 16 ⌝ }
+fn attempt_fault(n: usize, step: f64, a: Attempt, jacobian: [f64; JACOBIAN], lent: usize) -> u8
+    requires { ⌜ n ≤ places ⌝ }
     ensures { λ r. ⌜ r ≡ fault (attemptTests n step a jacobian lent) ⌝ }
 {
     if !(places::clear(&jacobian, used_jacobian(a, n)) & (lent == n)) {
@@ -349,7 +365,7 @@ fn largest_fault(largest: f64) -> u8
 
 // ---- what a call is refused for: the session, then what is handed in
 
-fn begin_fault(s: Session, step: f64, a: Attempt, jacobian: [f64; 256], lent: usize) -> u8
+fn begin_fault(s: Session, step: f64, a: Attempt, jacobian: [f64; JACOBIAN], lent: usize) -> u8
     ensures { λ r. ⌜ r ≡ fault (beginTests s step a jacobian lent) ⌝ }
 {
     let k = session_fault(Wants::Only(Phase::Rest), s);
@@ -359,7 +375,7 @@ fn begin_fault(s: Session, step: f64, a: Attempt, jacobian: [f64; 256], lent: us
     k
 }
 
-fn supply_fault(s: Session, answer: [f64; 16], lent: usize) -> u8
+fn supply_fault(s: Session, answer: [f64; PLACES], lent: usize) -> u8
     ensures { λ r. ⌜ r ≡ fault (supplyTests s answer lent) ⌝ }
 {
     let k = session_fault(Wants::Only(Phase::Asking), s);
@@ -369,7 +385,7 @@ fn supply_fault(s: Session, answer: [f64; 16], lent: usize) -> u8
     k
 }
 
-fn accept_fault(s: Session, derivative: [f64; 16]) -> u8
+fn accept_fault(s: Session, derivative: [f64; PLACES]) -> u8
     ensures { λ r. ⌜ r ≡ fault (acceptTests s derivative) ⌝ }
 {
     let k = session_fault(Wants::Only(Phase::Waiting), s);
@@ -426,22 +442,22 @@ fn not_allowed() -> methods::StepResult
     methods::StepResult {
         ok: false,
         kind: methods::Kind::Done,
-        state: [0.0; 16],
-        error: [0.0; 16],
-        nonlinear: [0.0; 16],
+        state: [0.0; PLACES],
+        error: [0.0; PLACES],
+        nonlinear: [0.0; PLACES],
     }
 }
 
 // A column's question.
-fn asked(x: [f64; 16], time: f64) -> methods::StepResult
+fn asked(x: [f64; PLACES], time: f64) -> methods::StepResult
     ensures { λ r. ⌜ reached r ≡ question x time ⌝ }
 {
     methods::StepResult {
         ok: evaluation::all_finite(&x),
         kind: methods::Kind::Question(time),
         state: x,
-        error: [0.0; 16],
-        nonlinear: [0.0; 16],
+        error: [0.0; PLACES],
+        nonlinear: [0.0; PLACES],
     }
 }
 
@@ -449,7 +465,7 @@ fn asked(x: [f64; 16], time: f64) -> methods::StepResult
 fn stepped_from(s: Session, answers: &[f64], a: &mut [f64]) -> methods::StepResult
     requires { ⌜ Sound s ⌝ }
     requires { ⌜ (s .n ≤ s .count) × (s .count ≤ s .n + 4) ⌝ }
-    requires { ⌜ (now answers ≡ s .answers) × (length (now answers) ≡ 320) ⌝ }
+    requires { ⌜ (now answers ≡ s .answers) × (length (now answers) ≡ answerRoom) ⌝ }
     requires { ⌜ length (now a) ≡ s .n * s .n ⌝ }
     ensures { λ r. ⌜ reached r ≡ stepped s (mat (s .n) (jacobianEntry (s .state) (s .derivative) (s .answers))) (s .n) ⌝ }
 {
@@ -463,7 +479,7 @@ fn stepped_from(s: Session, answers: &[f64], a: &mut [f64]) -> methods::StepResu
 fn differencing(s: Session, answers: &[f64]) -> methods::StepResult
     requires { ⌜ Sound s ⌝ }
     requires { ⌜ s .count ≤ s .n + 4 ⌝ }
-    requires { ⌜ (now answers ≡ s .answers) × (length (now answers) ≡ 320) ⌝ }
+    requires { ⌜ (now answers ≡ s .answers) × (length (now answers) ≡ answerRoom) ⌝ }
     ensures { λ r. ⌜ reached r ≡ differencing s ⌝ }
 {
     let n = s.n;
@@ -478,7 +494,7 @@ fn differencing(s: Session, answers: &[f64]) -> methods::StepResult
     }
     if engine::columns_ok(state, f0, answers, n, n) {
         let size = n * n;
-        let mut a = [0.0; 256];
+        let mut a = [0.0; JACOBIAN];
         return stepped_from(s, answers, &mut a[..size]);
     }
     not_allowed()
@@ -527,7 +543,7 @@ fn run_pass(s: Session) -> methods::StepResult
 // ---- the session that comes back
 
 // The run of s with another attempt, which has no answer yet.
-fn begun(s: Session, step: f64, attempt: Attempt, jacobian: [f64; 256]) -> Session
+fn begun(s: Session, step: f64, attempt: Attempt, jacobian: [f64; JACOBIAN]) -> Session
     ensures { λ r. ⌜ r ≡ begun s step attempt jacobian ⌝ }
 {
     Session {
@@ -535,7 +551,7 @@ fn begun(s: Session, step: f64, attempt: Attempt, jacobian: [f64; 256]) -> Sessi
         step,
         jacobian,
         count: 0,
-        answers: [0.0; 320],
+        answers: [0.0; ROOM],
         ..s
     }
 }
@@ -544,12 +560,12 @@ fn begun(s: Session, step: f64, attempt: Attempt, jacobian: [f64; 256]) -> Sessi
 fn rested(s: Session) -> Session
     ensures { λ r. ⌜ r ≡ rested s ⌝ }
 {
-    begun(s, 0.0, Attempt::None, [0.0; 256])
+    begun(s, 0.0, Attempt::None, [0.0; JACOBIAN])
 }
 
 // s with one answer more.
-fn answered(s: Session, answer: [f64; 16]) -> Session
-    requires { ⌜ s .count < 20 ⌝ }
+fn answered(s: Session, answer: [f64; PLACES]) -> Session
+    requires { ⌜ s .count < answersKept ⌝ }
     ensures { λ r. ⌜ r ≡ answered s answer ⌝ }
 {
     let count = s.count;
@@ -570,17 +586,17 @@ fn nothing() -> Session
         scheme: 0,
         n: 0,
         time: 0.0,
-        state: [0.0; 16],
-        derivative: [0.0; 16],
+        state: [0.0; PLACES],
+        derivative: [0.0; PLACES],
         relative: 0.0,
         absolute: 0.0,
         history: History::Missing,
-        previous: [0.0; 16],
+        previous: [0.0; PLACES],
         attempt: Attempt::None,
         step: 0.0,
-        jacobian: [0.0; 256],
+        jacobian: [0.0; JACOBIAN],
         count: 0,
-        answers: [0.0; 320],
+        answers: [0.0; ROOM],
     }
 }
 
@@ -588,9 +604,9 @@ fn nothing() -> Session
 fn moved(
     s: Session,
     time: f64,
-    state: [f64; 16],
-    derivative: [f64; 16],
-    nonlinear: [f64; 16],
+    state: [f64; PLACES],
+    derivative: [f64; PLACES],
+    nonlinear: [f64; PLACES],
 ) -> Session
     ensures { λ r. ⌜ r ≡ moved s time state derivative nonlinear ⌝ }
 {
@@ -601,7 +617,7 @@ fn moved(
         derivative,
         ..rest
     };
-    if s.scheme == 13 {
+    if s.scheme == ETD2 {
         return Session {
             history: History::Held,
             previous: nonlinear,
@@ -613,7 +629,7 @@ fn moved(
 
 // ---- what is told
 
-fn ready_of(s: Session, candidate: [f64; 16], error: [f64; 16]) -> Answer
+fn ready_of(s: Session, candidate: [f64; PLACES], error: [f64; PLACES]) -> Answer
     requires { ⌜ Sound s ⌝ }
     ensures { λ r. ⌜ r ≡ readyOf s candidate error ⌝ }
 {
@@ -621,14 +637,14 @@ fn ready_of(s: Session, candidate: [f64; 16], error: [f64; 16]) -> Answer
     let attempt = s.attempt;
     let state = s.state;
     let rhs = wanted(s.scheme, n, attempt);
-    if (s.scheme == 14) | (s.scheme == 15) {
+    if (s.scheme == EXPRB32) | (s.scheme == EXPRB43) {
         let norm = engine::scaled_error_norm(n, s.relative, s.absolute, state, candidate, error);
         return Answer::Ready(norm, rhs as u32, 1);
     }
     Answer::Ready(0.0, rhs as u32, 1)
 }
 
-fn answer_of(s: Session, kind: methods::Kind, x: [f64; 16], e: [f64; 16]) -> Answer
+fn answer_of(s: Session, kind: methods::Kind, x: [f64; PLACES], e: [f64; PLACES]) -> Answer
     requires { ⌜ Sound s ⌝ }
     ensures { λ r. ⌜ r ≡ answerOf s kind x e ⌝ }
 {
@@ -675,7 +691,12 @@ fn show(old: Session, s: Session, out: &mut [f64]) -> Told
 }
 
 // The candidate becomes the state; refused where the time is not finite.
-fn arrive(s: Session, candidate: [f64; 16], derivative: [f64; 16], nonlinear: [f64; 16]) -> Told
+fn arrive(
+    s: Session,
+    candidate: [f64; PLACES],
+    derivative: [f64; PLACES],
+    nonlinear: [f64; PLACES],
+) -> Told
     ensures { λ r. ⌜ r ≡ arrived s candidate derivative nonlinear ⌝ }
 {
     let t = s.time + s.step;
@@ -685,7 +706,7 @@ fn arrive(s: Session, candidate: [f64; 16], derivative: [f64; 16], nonlinear: [f
     refused(s, 6)
 }
 
-fn settle(s: Session, derivative: [f64; 16]) -> Told
+fn settle(s: Session, derivative: [f64; PLACES]) -> Told
     requires { ⌜ Sound s ⌝ }
     ensures { λ r. ⌜ r ≡ settled s derivative (progress s) ⌝ }
 {
@@ -710,12 +731,12 @@ impl Session {
         scheme: u8,
         n: usize,
         time: f64,
-        state: [f64; 16],
-        derivative: [f64; 16],
+        state: [f64; PLACES],
+        derivative: [f64; PLACES],
         relative: f64,
         absolute: f64,
         history: History,
-        previous: [f64; 16],
+        previous: [f64; PLACES],
     ) -> Told
         ensures { λ r. ⌜ r ≡ openCall (record {
           scheme = scheme;
@@ -750,7 +771,7 @@ impl Session {
     }
 
     // Begins an attempt: the first question, or the candidate where there is none, fills `out`.
-    pub fn begin(self, step: f64, wish: Wish, jacobian: [f64; 256], out: &mut [f64]) -> Told
+    pub fn begin(self, step: f64, wish: Wish, jacobian: [f64; JACOBIAN], out: &mut [f64]) -> Told
         ensures { λ r. ⌜ outcome r (now (out .exit)) ≡ beginCall self step wish jacobian (now (out .entry)) ⌝ }
     {
         let a = attempt_of(wish);
@@ -762,7 +783,7 @@ impl Session {
     }
 
     // Supplies the derivative that was asked for: the next question, or the candidate, fills `out`.
-    pub fn supply(self, answer: [f64; 16], out: &mut [f64]) -> Told
+    pub fn supply(self, answer: [f64; PLACES], out: &mut [f64]) -> Told
         ensures { λ r. ⌜ outcome r (now (out .exit)) ≡ supplyCall self answer (now (out .entry)) ⌝ }
     {
         let k = supply_fault(self, answer, out.len());
@@ -773,7 +794,7 @@ impl Session {
     }
 
     // Accepts the candidate, with the derivative there.
-    pub fn accept(self, derivative: [f64; 16]) -> Told
+    pub fn accept(self, derivative: [f64; PLACES]) -> Told
         ensures { λ r. ⌜ r ≡ acceptCall self derivative ⌝ }
     {
         let k = accept_fault(self, derivative);
@@ -824,7 +845,7 @@ impl Session {
 fn exponential_fault(size: usize, m: &[f64], lent: usize) -> u8
     ensures { λ r. ⌜ r ≡ fault (exponentialTests size (now (m .entry)) lent) ⌝ }
 {
-    if (1 <= size) & (size <= 20) {
+    if (1 <= size) & (size <= LARGEST) {
         if (m.len() == size * size) & (lent == size * size) {
             if evaluation::all_finite(m) {
                 return 0;
@@ -852,7 +873,7 @@ pub fn exponential(size: usize, m: &[f64], out: &mut [f64]) -> Answer
 fn phi_fault(n: usize, order: usize, scale_a: f64, a: &[f64], input: &[f64], lent: usize) -> u8
     ensures { λ r. ⌜ r ≡ fault (phiTests n order «scale_a» (now (a .entry)) (now (input .entry)) lent) ⌝ }
 {
-    if (1 <= n) & (n <= 16) & (1 <= order) & (order <= 4) {
+    if (1 <= n) & (n <= PLACES) & (1 <= order) & (order <= 4) {
         if (a.len() == n * n) & (input.len() == n) & (lent == n) {
             if float::finite(scale_a) & evaluation::all_finite(a) & evaluation::all_finite(input) {
                 return 0;
@@ -892,14 +913,14 @@ fn norm_fault(
     n: usize,
     relative: f64,
     absolute: f64,
-    error: [f64; 16],
-    state: [f64; 16],
-    candidate: [f64; 16],
+    error: [f64; PLACES],
+    state: [f64; PLACES],
+    candidate: [f64; PLACES],
 ) -> u8
     ensures { λ r. ⌜ r ≡ fault (normTests n relative absolute error state candidate) ⌝ }
 {
     if (1 <= n)
-        & (n <= 16)
+        & (n <= PLACES)
         & places::clear(&error, n)
         & places::clear(&state, n)
         & places::clear(&candidate, n)
@@ -923,9 +944,9 @@ pub fn error_norm(
     n: usize,
     relative: f64,
     absolute: f64,
-    error: [f64; 16],
-    state: [f64; 16],
-    candidate: [f64; 16],
+    error: [f64; PLACES],
+    state: [f64; PLACES],
+    candidate: [f64; PLACES],
 ) -> Answer
     ensures { λ r. ⌜ r ≡ normCall n relative absolute error state candidate ⌝ }
 {

@@ -3,8 +3,11 @@ ghost use mathlib.Core.Path.{_≡_};
 ghost use Prim.Native.Nat.{_*_, _≤_, _<_};
 ghost use lib.ListN.{length};
 ghost use Rattle.loops.specs.Loop.{tab, stores, _!_};
+ghost use Rattle.methods.specs.Sizes.{places, answersKept};
 ghost use Rattle.matrix.specs.Vector.{vec};
 ghost use Rattle.session.specs.Session.{clear, clearAnswers};
+use methods::PLACES;
+use methods::ROOM;
 
 // Whether the places from `used` on are +0.0.
 pub fn clear(x: &[f64], used: usize) -> bool
@@ -23,14 +26,14 @@ pub fn clear_answers(x: &[f64], count: usize, n: usize) -> bool
 {
     let mut ok = true;
     for i in 0..x.len() {
-        ok = ok & (((i / 16 < count) & (i % 16 < n)) | float::plus_zero(x[i]));
+        ok = ok & (((i / PLACES < count) & (i % PLACES < n)) | float::plus_zero(x[i]));
     }
     ok
 }
 
 // The first places of x into all of out.
-pub fn copy_out(x: [f64; 16], out: &mut [f64])
-    requires { ⌜ length (now out) ≤ 16 ⌝ }
+pub fn copy_out(x: [f64; PLACES], out: &mut [f64])
+    requires { ⌜ length (now out) ≤ places ⌝ }
     ensures { λ _. ⌜ now (out .exit) ≡ tab (length (now (out .entry))) (λ i. x ! i) ⌝ }
 {
     for i in 0..out.len() {
@@ -39,12 +42,12 @@ pub fn copy_out(x: [f64; 16], out: &mut [f64])
 }
 
 // The n numbers of x as a vector.
-pub fn vector(x: &[f64], n: usize) -> [f64; 16]
-    requires { ⌜ n ≤ 16 ⌝ }
+pub fn vector(x: &[f64], n: usize) -> [f64; PLACES]
+    requires { ⌜ n ≤ places ⌝ }
     requires { ⌜ length (now x) ≡ n ⌝ }
     ensures { λ r. ⌜ r ≡ vec n (λ i. now (x .entry) ! i) ⌝ }
 {
-    let mut out = [0.0; 16];
+    let mut out = [0.0; PLACES];
     for i in 0..n {
         out[i] = x[i];
     }
@@ -52,13 +55,13 @@ pub fn vector(x: &[f64], n: usize) -> [f64; 16]
 }
 
 // x stored among the answers as the k-th.
-pub fn put(answers: [f64; 320], k: usize, x: [f64; 16]) -> [f64; 320]
-    requires { ⌜ k < 20 ⌝ }
-    ensures { λ r. ⌜ r ≡ stores (λ i _. x ! i) (16 * k) 16 answers ⌝ }
+pub fn put(answers: [f64; ROOM], k: usize, x: [f64; PLACES]) -> [f64; ROOM]
+    requires { ⌜ k < answersKept ⌝ }
+    ensures { λ r. ⌜ r ≡ stores (λ i _. x ! i) (places * k) places answers ⌝ }
 {
     let mut all = answers;
-    let at = 16 * k;
-    for i in 0..16 {
+    let at = PLACES * k;
+    for i in 0..PLACES {
         all[at + i] = x[i];
     }
     all
