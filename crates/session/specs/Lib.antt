@@ -2,3 +2,4 @@ pub mod Session
 pub mod Calls
 pub mod Bare
 pub mod Refusals
+pub mod Values
