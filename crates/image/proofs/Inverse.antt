@@ -112,7 +112,7 @@ module _ (s : Session) (t : Typed s) where
   unpack-pack : unpacked (packedNumbers s) (packedFigures s) ≡ s
   unfolding unpacked packedNumbers packedFigures placeOf sizeOf arrayOf
   unpack-pack =
-      rw (scheme-kept (s .scheme) (t .scheme), history-kept (s .history), attempt-kept (s .attempt), kept 0, kept 1, kept 2, kept 3, kept 4) 
+      rw (scheme-kept (s .scheme) (t .scheme), history-kept (s .history), attempt-kept (s .attempt), kept 0, kept 1, kept 2, kept 3, kept 4)
 
 -- ---- packing what was unpacked
 

@@ -20,43 +20,69 @@ use session::Wish;
 
 // Places of a vector, of a Jacobian, of the answers.
 pub const VECTOR: usize = 16;
+
 pub const MATRIX: usize = 256;
+
 pub const ANSWERS: usize = 320;
 
 // Among the numbers.
 pub const SCHEME_AT: usize = 0;
+
 pub const N_AT: usize = SCHEME_AT + 1;
+
 pub const HISTORY_AT: usize = N_AT + 1;
+
 pub const ATTEMPT_AT: usize = HISTORY_AT + 1;
+
 pub const COUNT_AT: usize = ATTEMPT_AT + 1;
+
 pub const NUMBERS: usize = COUNT_AT + 1;
 
 // Among the figures.
 pub const TIME_AT: usize = 0;
+
 pub const STEP_AT: usize = TIME_AT + 1;
+
 pub const RELATIVE_AT: usize = STEP_AT + 1;
+
 pub const ABSOLUTE_AT: usize = RELATIVE_AT + 1;
+
 pub const STATE_AT: usize = ABSOLUTE_AT + 1;
+
 pub const DERIVATIVE_AT: usize = STATE_AT + VECTOR;
+
 pub const PREVIOUS_AT: usize = DERIVATIVE_AT + VECTOR;
+
 pub const JACOBIAN_AT: usize = PREVIOUS_AT + VECTOR;
+
 pub const ANSWERS_AT: usize = JACOBIAN_AT + MATRIX;
+
 pub const FIGURES: usize = ANSWERS_AT + ANSWERS;
 
 // Among the words in which a reply's outcome, refusal and counts cross.
 pub const OUTCOME_AT: usize = 0;
+
 pub const REFUSAL_AT: usize = OUTCOME_AT + 1;
+
 pub const RHS_AT: usize = REFUSAL_AT + 1;
+
 pub const JACOBIANS_AT: usize = RHS_AT + 1;
+
 pub const WORDS: usize = JACOBIANS_AT + 1;
 
 // The outcomes' numbers.
 pub const REFUSED: u8 = 0;
+
 pub const ASK: u8 = 1;
+
 pub const READY: u8 = 2;
+
 pub const RESTING: u8 = 3;
+
 pub const FIRST_STEP: u8 = 4;
+
 pub const FILLED: u8 = 5;
+
 pub const NORM: u8 = 6;
 
 // What is told of an answer: the outcome, the refusal's number (0 for none), the figure that it carries, and the counts.

@@ -33,9 +33,7 @@ fn hearing(words: &[u64], told: &[f64]) -> bool
 fn lent(numbers: &[u64], figures: &[f64], words: &[u64], told: &[f64]) -> bool
     ensures { λ r. ⌜ r ≡ fitting (slices (now (numbers .entry)) (now (figures .entry)) (now (words .entry)) (now (told .entry))) ⌝ }
 {
-    (numbers.len() == image::NUMBERS)
-        & (figures.len() == image::FIGURES)
-        & hearing(words, told)
+    (numbers.len() == image::NUMBERS) & (figures.len() == image::FIGURES) & hearing(words, told)
 }
 
 // Whether x has n places.

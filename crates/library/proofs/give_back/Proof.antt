@@ -14,9 +14,9 @@ give-back-spec =
     let said = c .before .before .before .before .before in
     let refused = said .say .ensures .1 in
     record {
-    numbers = rw (← refused, c .if1 .taken);
-    figures = rw (← refused, c .if1 .taken);
-    said = said .say .ensures .0;
+      numbers = rw (← refused, c .if1 .taken);
+      figures = rw (← refused, c .if1 .taken);
+      said = said .say .ensures .0;
     })
     (λ c κs. search needs)
     (λ c. search needs)
@@ -29,7 +29,7 @@ give-back-spec =
     let said = test .before .before .before .before .before in
     let refused = said .say .ensures .1 in
     record {
-    numbers = rw (← refused, test .if1 .left) (packed .pack .ensures .0);
-    figures = rw (← refused, test .if1 .left) (packed .pack .ensures .1);
-    said = said .say .ensures .0;
+      numbers = rw (← refused, test .if1 .left) (packed .pack .ensures .0);
+      figures = rw (← refused, test .if1 .left) (packed .pack .ensures .1);
+      said = said .say .ensures .0;
     }))

@@ -27,8 +27,10 @@ say-spec =
     (λ c. search needs)
     (λ c.
     let reply = c .before .before .before .before .before in
-    let start = reply .before .before .before in
-    (record {
-    words = rw (← (reply .reply-of .ensures), spelt 0 WORDS (start .args .words .now) (start .pre .words));
-    told = rw (← (reply .reply-of .ensures), spelt nan 1 (start .args .told .now) (start .pre .told));
-    }, rw (← (reply .reply-of .ensures)))))
+    let start = reply .before .before .before in (
+      record {
+        words = rw (← (reply .reply-of .ensures), spelt 0 WORDS (start .args .words .now) (start .pre .words));
+        told = rw (← (reply .reply-of .ensures), spelt nan 1 (start .args .told .now) (start .pre .told));
+      },
+      rw (← (reply .reply-of .ensures)),
+    )))

@@ -42,8 +42,14 @@ vunchrem-accept-spec =
     let held = handed .before in
     let test = held .before .before .before in
     let given = test .before .before .before .before .before .before in
-    rw (← (given .sized .ensures), ← (test .before .lent .ensures), test .if1 .taken,
-    ← (held .unpack .ensures), ← (handed .vector-of .ensures), ← (accepted .accept .ensures))
+    rw (
+      ← (given .sized .ensures),
+      ← (test .before .lent .ensures),
+      test .if1 .taken,
+      ← (held .unpack .ensures),
+      ← (handed .vector-of .ensures),
+      ← (accepted .accept .ensures),
+    )
     (refl, back .give-back .ensures))
     (λ c. search needs)
     (λ c. search needs)

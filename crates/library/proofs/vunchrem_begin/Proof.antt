@@ -45,8 +45,15 @@ vunchrem-begin-spec =
     let held = wish .before in
     let test = held .before .before .before in
     let given = test .before .before .before .before .before .before in
-    rw (← (given .sized .ensures), ← (test .before .lent .ensures), test .if1 .taken,
-    ← (held .unpack .ensures), ← (wish .wish-of .ensures), ← (handed .matrix-of .ensures), ← (begun .begin .ensures))
+    rw (
+      ← (given .sized .ensures),
+      ← (test .before .lent .ensures),
+      test .if1 .taken,
+      ← (held .unpack .ensures),
+      ← (wish .wish-of .ensures),
+      ← (handed .matrix-of .ensures),
+      ← (begun .begin .ensures),
+    )
     (refl, record { back = back .give-back .ensures; out = refl }))
     (λ c. search needs)
     (λ c. search needs)

@@ -44,8 +44,15 @@ vunchrem-error-norm-spec =
     let error = state .before in
     let test = error .before in
     let given = test .before .before .before .before in
-    rw (← (given .three .ensures), ← (test .before .hearing .ensures), test .if1 .taken,
-    ← (error .vector-of .ensures), ← (state .vector-of2 .ensures), ← (candidate .vector-of3 .ensures), ← (normed .error-norm .ensures))
+    rw (
+      ← (given .three .ensures),
+      ← (test .before .hearing .ensures),
+      test .if1 .taken,
+      ← (error .vector-of .ensures),
+      ← (state .vector-of2 .ensures),
+      ← (candidate .vector-of3 .ensures),
+      ← (normed .error-norm .ensures),
+    )
     (refl, said .say .ensures .0))
     (λ c. search needs)
     (λ c. search needs)

@@ -58,9 +58,17 @@ vunchrem-open-spec =
     let scheme = state .before in
     let test = scheme .before in
     let given = test .before .before .before .before .before .before in
-    rw (← (given .three .ensures), ← (test .before .lent .ensures), test .if1 .taken,
-    ← (scheme .scheme-of .ensures), ← (state .vector-of .ensures), ← (derivative .vector-of2 .ensures),
-    ← (history .history-of .ensures), ← (previous .vector-of3 .ensures), ← (opened .«open» .ensures))
+    rw (
+      ← (given .three .ensures),
+      ← (test .before .lent .ensures),
+      test .if1 .taken,
+      ← (scheme .scheme-of .ensures),
+      ← (state .vector-of .ensures),
+      ← (derivative .vector-of2 .ensures),
+      ← (history .history-of .ensures),
+      ← (previous .vector-of3 .ensures),
+      ← (opened .«open» .ensures),
+    )
     (refl, record { numbers = packed .pack .ensures .0; figures = packed .pack .ensures .1; said = said .say .ensures .0 }))
     (λ c. search needs)
     (λ c. search needs)

@@ -43,8 +43,14 @@ vunchrem-supply-spec =
     let held = handed .before in
     let test = held .before .before .before in
     let given = test .before .before .before .before .before .before in
-    rw (← (given .sized .ensures), ← (test .before .lent .ensures), test .if1 .taken,
-    ← (held .unpack .ensures), ← (handed .vector-of .ensures), ← (supplied .supply .ensures))
+    rw (
+      ← (given .sized .ensures),
+      ← (test .before .lent .ensures),
+      test .if1 .taken,
+      ← (held .unpack .ensures),
+      ← (handed .vector-of .ensures),
+      ← (supplied .supply .ensures),
+    )
     (refl, record { back = back .give-back .ensures; out = refl }))
     (λ c. search needs)
     (λ c. search needs)
