@@ -137,7 +137,17 @@ figures-back : (l : List ℕ) (f : List Float) → Holds l f → packedFigures (
 unfolding unpacked storedAll
 figures-back l f h =
     sym (all-stored (unpacked l f) f (h .figures))
-    ∙ rw (set-getD f timeAt nan, set-getD f stepAt nan, set-getD f relativeAt nan, set-getD f absoluteAt nan, back f stateAt VECTOR, back f derivativeAt VECTOR, back f previousAt VECTOR, back f jacobianAt MATRIX, back f answersAt ANSWERS)
+    ∙ rw (
+      set-getD f timeAt nan,
+      set-getD f stepAt nan,
+      set-getD f relativeAt nan,
+      set-getD f absoluteAt nan,
+      back f stateAt VECTOR,
+      back f derivativeAt VECTOR,
+      back f previousAt VECTOR,
+      back f jacobianAt MATRIX,
+      back f answersAt ANSWERS,
+    )
 
 pub inverse : Inverse
 inverse = record { unpackPack = unpack-pack; packUnpackNumbers = numbers-back; packUnpackFigures = figures-back }

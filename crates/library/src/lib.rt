@@ -8,7 +8,7 @@
 // A refused call writes neither numbers nor figures nor the output. A refused open overwrites numbers and figures, whatever they held: they become
 // those of the session that a refused open gives, which any call refuses.
 ghost use mathlib.Core.Path.{_≡_};
-ghost use mathlib.Core.Bool.{true, _&&_};
+ghost use mathlib.Core.Bool.{true};
 ghost use lib.Dec.{eqb};
 ghost use lib.ListN.{length};
 ghost use Rattle.image.specs.Image.{VECTOR, MATRIX, schemeOf, historyOf, wishOf};

@@ -35,4 +35,13 @@ unpack-spec =
     let attempt = state .before .before in
     let history = attempt .before .before in
     let scheme = history .before .before .before in
-    rw (answers .all-answers .ensures, jacobian .matrix-at .ensures, previous .vector-at3 .ensures, derivative .vector-at2 .ensures, state .vector-at .ensures, attempt .attempt-of .ensures, history .history-of .ensures, scheme .scheme-of .ensures)))
+    rw (
+      answers .all-answers .ensures,
+      jacobian .matrix-at .ensures,
+      previous .vector-at3 .ensures,
+      derivative .vector-at2 .ensures,
+      state .vector-at .ensures,
+      attempt .attempt-of .ensures,
+      history .history-of .ensures,
+      scheme .scheme-of .ensures,
+    )))

@@ -39,7 +39,8 @@ vunchrem-begin-spec =
     (λ c.
     let written = c .before .before .before .before in
     let back = written .before .before .before .before in
-    let begun = back .before .before .before .before .before .before .before in
+    let out = back .before .before .before .before .before .before in
+    let begun = out .before in
     let handed = begun .before .before in
     let wish = handed .before in
     let held = wish .before in

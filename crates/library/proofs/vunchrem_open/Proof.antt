@@ -49,7 +49,8 @@ vunchrem-open-spec =
     (λ c. search needs)
     (λ c.
     let packed = c .before .before .before .before in
-    let said = packed .before .before .before .before .before .before .before in
+    let told = packed .before .before .before .before in
+    let said = told .before .before .before in
     let opened = said .before .before .before .before in
     let previous = opened .before in
     let history = previous .before in

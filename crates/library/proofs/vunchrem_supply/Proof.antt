@@ -38,7 +38,8 @@ vunchrem-supply-spec =
     (λ c.
     let written = c .before .before .before .before in
     let back = written .before .before .before .before in
-    let supplied = back .before .before .before .before .before .before .before in
+    let out = back .before .before .before .before .before .before in
+    let supplied = out .before in
     let handed = supplied .before .before in
     let held = handed .before in
     let test = held .before .before .before in
