@@ -1,5 +1,5 @@
 -- A session's image: the numbers and figures that it crosses to other programs as, and what is told of an answer. Definitions only.
-use Prim.Native.Nat.{ℕ, _+_, _≤_, _<_}
+use Prim.Native.Nat.{ℕ, _+_, _*_, _≤_, _<_}
 use mathlib.Core.Path.{_≡_}
 use mathlib.Core.Bool.{cond}
 use mathlib.Core.List.{List, [], _∷_, _++_}
@@ -19,15 +19,15 @@ use Rattle.session.specs.declared.Wish.the-variants.{Given, Difference}
 
 -- ---- how many there are, and where each field stands: behind the one before it. The code's constants have the same names, as STATE_AT for stateAt
 
--- places of a vector, of a Jacobian, of the answers
+-- places of a vector, of a Jacobian, of the 20 answers
 abbrev pub VECTOR : ℕ
 VECTOR = 16
 
 abbrev pub MATRIX : ℕ
-MATRIX = 256
+MATRIX = VECTOR * VECTOR
 
 abbrev pub ANSWERS : ℕ
-ANSWERS = 320
+ANSWERS = 20 * VECTOR
 
 -- among the numbers
 abbrev pub schemeAt : ℕ

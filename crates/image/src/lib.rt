@@ -18,12 +18,12 @@ use session::Wish;
 
 // ---- how many there are, and where each field stands: behind the one before it
 
-// Places of a vector, of a Jacobian, of the answers.
+// Places of a vector, of a Jacobian, of the 20 answers.
 pub const VECTOR: usize = 16;
 
-pub const MATRIX: usize = 256;
+pub const MATRIX: usize = VECTOR * VECTOR;
 
-pub const ANSWERS: usize = 320;
+pub const ANSWERS: usize = 20 * VECTOR;
 
 // Among the numbers.
 pub const SCHEME_AT: usize = 0;

@@ -1,9 +1,6 @@
 -- `image::put_numbers` meets its contract. Assumes nothing.
 use native.Mathlib.Omega.{arith}
 use borrow.Author.Needs.{needs}
-use mathlib.Core.Path.{ap}
-use mathlib.Core.List.{List}
-use Prim.Native.Nat.{ℕ}
 use lib.ListN.{length-set}
 use Rattle.loops.specs.Loop.{tab, from}
 use Rattle.image.specs.Image.{NUMBERS, packedNumbers}

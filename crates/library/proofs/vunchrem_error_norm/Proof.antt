@@ -14,9 +14,8 @@ vunchrem-error-norm-spec =
     (λ c κs. search needs)
     (λ c κs. search needs)
     (λ c κs.
-    let test = c in
-    let given = test .before .before .before .before in
-    let long = three _ _ _ (sym (given .three .ensures) ∙ and-left (given .three .result) (test .before .hearing .result) (test .if1 .taken)) in
+    let given = c .before .before .before .before in
+    let long = three _ _ _ (sym (given .three .ensures) ∙ and-left (given .three .result) (c .before .hearing .result) (c .if1 .taken)) in
     long .first)
     (λ c κs.
     let test = c .before in
