@@ -8,9 +8,39 @@ mod published {
     include!(env!("PUBLISHED"));
 }
 
-#[allow(improper_ctypes)]
 extern "C" {
-    fn vunchrem_matrix_exp(m: &[f64], out: &mut [f64], n: usize) -> bool;
+    fn vunchrem_exponential(
+        size: u64,
+        m: *const f64,
+        m_len: usize,
+        out: *mut f64,
+        out_len: usize,
+        words: *mut u64,
+        words_len: usize,
+        told: *mut f64,
+        told_len: usize,
+    ) -> u32;
+}
+
+// Whether the port filled out with the exponential of m (outcome 5).
+fn exponential(m: &[f64], out: &mut [f64], n: usize) -> bool {
+    let mut words = [0u64; 4];
+    let mut told = [0.0];
+    // SAFETY: each pointer and length is that of an array or slice that is lent for the call; no two overlap.
+    let code = unsafe {
+        vunchrem_exponential(
+            n as u64,
+            m.as_ptr(),
+            m.len(),
+            out.as_mut_ptr(),
+            out.len(),
+            words.as_mut_ptr(),
+            words.len(),
+            told.as_mut_ptr(),
+            told.len(),
+        )
+    };
+    code == 0 && words[0] == 5
 }
 
 // A matrix with entries of both signs whose largest row sum is about `sum`.
@@ -53,7 +83,7 @@ fn main() {
         for n in [1, 2, 3, 4, 6, 8, 12, 16, 20] {
             let m = matrix(n, sum);
             let mut out = vec![0.0; n * n];
-            assert!(unsafe { vunchrem_matrix_exp(&m, &mut out, n) });
+            assert!(exponential(&m, &mut out, n));
             let same = published::matrix_exp(&m, n)
                 .iter()
                 .zip(&out)
@@ -61,8 +91,8 @@ fn main() {
             let rust = time(|| {
                 black_box(published::matrix_exp(black_box(&m), black_box(n)));
             });
-            let port = time(|| unsafe {
-                black_box(vunchrem_matrix_exp(black_box(&m), black_box(&mut out), black_box(n)));
+            let port = time(|| {
+                black_box(exponential(black_box(&m), black_box(&mut out), black_box(n)));
             });
             println!(
                 "{n:4}  {name:8} {rust:12.0} {port:12.0} {:7.2}{}",

@@ -8,10 +8,10 @@
 
 static vunchrem_session s;
 static vunchrem_reply r;
-static const double none[256];
+static const double none[VUNCHREM_MATRIX];
 
 #define SESSION s.numbers, VUNCHREM_NUMBERS, s.figures, VUNCHREM_FIGURES
-#define REPLY r.words, 4, r.told, 1
+#define REPLY r.words, VUNCHREM_WORDS, r.told, 1
 
 static void check(const char *what, int holds) {
     printf("%s ... %s\n", what, holds ? "ok" : "WRONG");
@@ -28,19 +28,19 @@ static void f(double t, const double *u, double du[16]) {
 /* One step: begin with a differenced Jacobian, answer every question, accept. Returns 0, or the refusal's number with the attempt dropped. */
 static int step(double h) {
     double u[1], du[16];
-    vunchrem_begin(SESSION, h, 0, none, 256, u, 1, REPLY);
-    if (r.words[0] == VUNCHREM_REFUSED)
-        return (int)r.words[1];
-    while (r.words[0] == VUNCHREM_ASK) {
+    vunchrem_begin(SESSION, h, 0, none, VUNCHREM_MATRIX, u, 1, REPLY);
+    if (r.words[VUNCHREM_OUTCOME_AT] == VUNCHREM_REFUSED)
+        return (int)r.words[VUNCHREM_REFUSAL_AT];
+    while (r.words[VUNCHREM_OUTCOME_AT] == VUNCHREM_ASK) {
         f(r.told[0], u, du);
         vunchrem_supply(SESSION, du, 16, u, 1, REPLY);
     }
-    if (r.words[0] == VUNCHREM_READY) {
-        f(s.figures[0] + h, u, du);
+    if (r.words[VUNCHREM_OUTCOME_AT] == VUNCHREM_READY) {
+        f(s.figures[VUNCHREM_TIME_AT] + h, u, du);
         vunchrem_accept(SESSION, du, 16, REPLY);
     }
-    if (r.words[0] == VUNCHREM_REFUSED) {
-        int k = (int)r.words[1];
+    if (r.words[VUNCHREM_OUTCOME_AT] == VUNCHREM_REFUSED) {
+        int k = (int)r.words[VUNCHREM_REFUSAL_AT];
         vunchrem_drop(SESSION, REPLY);
         return k;
     }
@@ -54,35 +54,35 @@ int main(void) {
 
     f(0.0, u, du);
     vunchrem_open(VUNCHREM_EXPRB32, 1, 0, 0.0, 1e-6, 1e-9, u, 16, du, 16, none, 16, SESSION, REPLY);
-    check("open", r.words[0] == VUNCHREM_RESTING);
+    check("open", r.words[VUNCHREM_OUTCOME_AT] == VUNCHREM_RESTING);
     while (k < 10 && step(0.01) == 0)
         k++;
-    printf("u(%g) = %.9f, cos = %.9f\n", s.figures[0], s.figures[4], cos(s.figures[0]));
-    check("ten steps", k == 10 && fabs(s.figures[4] - cos(0.1)) < 1e-2);
+    printf("u(%g) = %.9f, cos = %.9f\n", s.figures[VUNCHREM_TIME_AT], s.figures[VUNCHREM_STATE_AT], cos(s.figures[VUNCHREM_TIME_AT]));
+    check("ten steps", k == 10 && fabs(s.figures[VUNCHREM_STATE_AT] - cos(0.1)) < 1e-2);
 
     kept = s;
     check("step 0 is refused by 5", step(0.0) == VUNCHREM_STEP && memcmp(&kept, &s, sizeof s) == 0);
 
-    vunchrem_begin(SESSION, 0.01, 0, none, 256, u, 1, REPLY);
+    vunchrem_begin(SESSION, 0.01, 0, none, VUNCHREM_MATRIX, u, 1, REPLY);
     kept = s;
     bad[0] = NAN;
     vunchrem_supply(SESSION, bad, 16, out, 1, REPLY);
-    check("a NaN answer is refused by 3", r.words[0] == VUNCHREM_REFUSED && r.words[1] == VUNCHREM_NOT_FINITE);
+    check("a NaN answer is refused by 3", r.words[VUNCHREM_OUTCOME_AT] == VUNCHREM_REFUSED && r.words[VUNCHREM_REFUSAL_AT] == VUNCHREM_NOT_FINITE);
     check("and leaves session and output", memcmp(&kept, &s, sizeof s) == 0 && out[0] == -1.5);
     bad[0] = 1e300;
     vunchrem_supply(SESSION, bad, 16, out, 1, REPLY);
-    check("a huge word is refused by 6", r.words[1] == VUNCHREM_ARITHMETIC && memcmp(&kept, &s, sizeof s) == 0);
+    check("a huge word is refused by 6", r.words[VUNCHREM_REFUSAL_AT] == VUNCHREM_ARITHMETIC && memcmp(&kept, &s, sizeof s) == 0);
     vunchrem_drop(SESSION, REPLY);
 
     kept = s;
     check("a wrong length gives 1", vunchrem_drop(s.numbers, 4, s.figures, VUNCHREM_FIGURES, REPLY) == 1);
     check("and touches nothing", memcmp(&kept, &s, sizeof s) == 0);
 
-    check("a scheme that no byte holds is refused by 2", (s.numbers[0] = 256 + 14, vunchrem_drop(SESSION, REPLY) == 0) &&
-          r.words[1] == VUNCHREM_SCHEME && s.numbers[0] == 256 + 14);
+    check("a scheme that no byte holds is refused by 2", (s.numbers[VUNCHREM_SCHEME_AT] = 256 + 14, vunchrem_drop(SESSION, REPLY) == 0) &&
+          r.words[VUNCHREM_REFUSAL_AT] == VUNCHREM_SCHEME && s.numbers[VUNCHREM_SCHEME_AT] == 256 + 14);
 
     vunchrem_exponential(1, one, 1, e, 1, REPLY);
     printf("exp(1) = %.17g\n", e[0]);
-    check("bare exponential", r.words[0] == VUNCHREM_FILLED && fabs(e[0] - exp(1.0)) < 1e-14);
+    check("bare exponential", r.words[VUNCHREM_OUTCOME_AT] == VUNCHREM_FILLED && fabs(e[0] - exp(1.0)) < 1e-14);
     return 0;
 }

@@ -4,8 +4,8 @@
  * nothing of the numbers. A slice is a pointer and a length; the pointer is not NULL, and no two slices of one call overlap.
  *
  * Each function returns 0 where the call was made, and 1 where a length is another than its own; then nothing is touched. What the call tells
- * stands in words[4] and told[1], see vunchrem_reply. A refused call writes neither the session nor the output that it was lent (a refused open
- * writes a session that any call refuses by 1). */
+ * stands in words[4] and told[1], see vunchrem_reply. A refused call writes neither the session nor the output that it was lent. A refused open
+ * overwrites the session that it was handed, by one that any call refuses by 1. */
 #ifndef VUNCHREM_H
 #define VUNCHREM_H
 
@@ -23,12 +23,12 @@ enum vunchrem_scheme {
     VUNCHREM_EPIRK5P2, VUNCHREM_ETD2, VUNCHREM_EXPRB32, VUNCHREM_EXPRB43
 };
 
-/* What a call came to: words[0]. */
+/* What a call came to: words[VUNCHREM_OUTCOME_AT]. */
 enum vunchrem_outcome {
     VUNCHREM_REFUSED, VUNCHREM_ASK, VUNCHREM_READY, VUNCHREM_RESTING, VUNCHREM_FIRST_STEP, VUNCHREM_FILLED, VUNCHREM_NORM
 };
 
-/* Why a call was refused: words[1], 0 where it was not. */
+/* Why a call was refused: words[VUNCHREM_REFUSAL_AT], 0 where it was not. */
 enum vunchrem_refusal {
     VUNCHREM_SIZE = 1,       /* a dimension, size, order or length does not fit */
     VUNCHREM_SCHEME = 2,     /* no such scheme, or a history under another scheme than Etd2 */
@@ -39,9 +39,40 @@ enum vunchrem_refusal {
     VUNCHREM_PHASE = 7       /* the session is in another phase */
 };
 
-#define VUNCHREM_MOST 16
-#define VUNCHREM_NUMBERS 5
-#define VUNCHREM_FIGURES 628
+/* The largest dimension. */
+#define VUNCHREM_MOST VUNCHREM_VECTOR
+
+/* Places of a vector, of a Jacobian, of the answers. */
+#define VUNCHREM_VECTOR 16
+#define VUNCHREM_MATRIX (VUNCHREM_VECTOR * VUNCHREM_VECTOR)
+#define VUNCHREM_ANSWERS (20 * VUNCHREM_VECTOR)
+
+/* Where each of a session's numbers stands, and how many there are. */
+#define VUNCHREM_SCHEME_AT 0
+#define VUNCHREM_N_AT (VUNCHREM_SCHEME_AT + 1)
+#define VUNCHREM_HISTORY_AT (VUNCHREM_N_AT + 1)
+#define VUNCHREM_ATTEMPT_AT (VUNCHREM_HISTORY_AT + 1)
+#define VUNCHREM_COUNT_AT (VUNCHREM_ATTEMPT_AT + 1)
+#define VUNCHREM_NUMBERS (VUNCHREM_COUNT_AT + 1)
+
+/* Where each of its figures stands, and how many there are. */
+#define VUNCHREM_TIME_AT 0
+#define VUNCHREM_STEP_AT (VUNCHREM_TIME_AT + 1)
+#define VUNCHREM_RELATIVE_AT (VUNCHREM_STEP_AT + 1)
+#define VUNCHREM_ABSOLUTE_AT (VUNCHREM_RELATIVE_AT + 1)
+#define VUNCHREM_STATE_AT (VUNCHREM_ABSOLUTE_AT + 1)
+#define VUNCHREM_DERIVATIVE_AT (VUNCHREM_STATE_AT + VUNCHREM_VECTOR)
+#define VUNCHREM_PREVIOUS_AT (VUNCHREM_DERIVATIVE_AT + VUNCHREM_VECTOR)
+#define VUNCHREM_JACOBIAN_AT (VUNCHREM_PREVIOUS_AT + VUNCHREM_VECTOR)
+#define VUNCHREM_ANSWERS_AT (VUNCHREM_JACOBIAN_AT + VUNCHREM_MATRIX)
+#define VUNCHREM_FIGURES (VUNCHREM_ANSWERS_AT + VUNCHREM_ANSWERS)
+
+/* Where each word of a reply stands, and how many there are. */
+#define VUNCHREM_OUTCOME_AT 0
+#define VUNCHREM_REFUSAL_AT (VUNCHREM_OUTCOME_AT + 1)
+#define VUNCHREM_RHS_AT (VUNCHREM_REFUSAL_AT + 1)
+#define VUNCHREM_JACOBIANS_AT (VUNCHREM_RHS_AT + 1)
+#define VUNCHREM_WORDS (VUNCHREM_JACOBIANS_AT + 1)
 
 /* A session: scheme, n, history (0 none, 1 held), attempt (0 none, 1 Jacobian supplied, 2 differenced), count of answers; and time, step,
  * relative and absolute tolerance, state 16, derivative 16, history 16, Jacobian 256, answers 320. Entries past n and places not in use are
@@ -54,7 +85,7 @@ typedef struct {
 /* What a call tells: outcome, refusal, right-hand sides and Jacobians (Ready's, else 0); and Ask's time, Ready's error norm, the first step or
  * the norm, else +0.0. */
 typedef struct {
-    uint64_t words[4];
+    uint64_t words[VUNCHREM_WORDS];
     double told[1];
 } vunchrem_reply;
 

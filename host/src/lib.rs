@@ -27,12 +27,13 @@
 use std::error::Error;
 use std::fmt;
 
+mod layout;
 mod raw;
 #[cfg(test)]
 mod tests;
 
 /// The largest dimension of a session.
-pub const MOST: usize = 16;
+pub const MOST: usize = layout::VECTOR;
 
 /// The sixteen schemes, in the order and with the numbers of the published module.
 #[derive(Clone, Copy, Debug, Eq, Hash, PartialEq)]
@@ -211,35 +212,40 @@ pub struct Stepped {
 /// A run of one scheme: its time, state, derivative, tolerances and, between begin and accept, its attempt.
 #[derive(Clone, Debug)]
 pub struct Session {
-    numbers: [u64; 5],
-    figures: Box<[f64; 628]>,
+    numbers: [u64; layout::NUMBERS],
+    figures: Box<[f64; layout::FIGURES]>,
 }
 
 // A Jacobian as the core takes it: whether one is given, and its places.
 struct Given {
     wish: u64,
-    places: [f64; 256],
+    places: [f64; layout::MATRIX],
 }
 
 // What a call tells, before it is sorted.
 struct Told {
-    words: [u64; 4],
+    words: [u64; layout::WORDS],
     told: [f64; 1],
 }
 
 impl Told {
     fn new() -> Told {
         Told {
-            words: [0; 4],
+            words: [0; layout::WORDS],
             told: [0.0],
         }
+    }
+
+    // Whether the call came to this outcome.
+    fn is(&self, outcome: usize) -> bool {
+        self.words[layout::OUTCOME_AT] == outcome as u64
     }
 
     // The call's code is 0: every length here is the one that it wants.
     fn sorted(self, code: u32) -> Result<Told, Refusal> {
         assert_eq!(code, 0, "a length that the core does not want");
-        if self.words[0] == 0 {
-            return Err(Refusal::of(self.words[1]));
+        if self.is(layout::REFUSED) {
+            return Err(Refusal::of(self.words[layout::REFUSAL_AT]));
         }
         Ok(self)
     }
@@ -295,8 +301,8 @@ impl Session {
             return Err(Refusal::Size);
         };
         let mut s = Session {
-            numbers: [0; 5],
-            figures: Box::new([0.0; 628]),
+            numbers: [0; layout::NUMBERS],
+            figures: Box::new([0.0; layout::FIGURES]),
         };
         let mut t = Told::new();
         // SAFETY: each pointer and length is that of an array or slice that is lent for the call; no two of the lent ones overlap.
@@ -329,14 +335,14 @@ impl Session {
     }
 
     fn n(&self) -> usize {
-        self.numbers[1] as usize
+        self.numbers[layout::N_AT] as usize
     }
 
     // A Jacobian of another length than n * n is handed on with an output that does not fit, so that the core refuses it in its order.
     fn given(&self, jacobian: Option<&[f64]>) -> (Given, bool) {
         let mut given = Given {
             wish: 0,
-            places: [0.0; 256],
+            places: [0.0; layout::MATRIX],
         };
         let Some(j) = jacobian else {
             return (given, true);
@@ -402,7 +408,7 @@ impl Session {
 
     fn progress(&self, t: Told, out: &[f64; MOST]) -> Progress {
         let places = out[..self.n()].to_vec();
-        if t.words[0] == 1 {
+        if t.is(layout::ASK) {
             Progress::Ask {
                 time: t.told[0],
                 state: places,
@@ -410,8 +416,8 @@ impl Session {
         } else {
             Progress::Ready {
                 error_norm: t.told[0],
-                right_hand_sides: t.words[2] as u32,
-                jacobians: t.words[3] as u32,
+                right_hand_sides: t.words[layout::RHS_AT] as u32,
+                jacobians: t.words[layout::JACOBIANS_AT] as u32,
                 candidate: places,
             }
         }
@@ -502,17 +508,17 @@ impl Session {
 
     /// The run's time.
     pub fn time(&self) -> f64 {
-        self.figures[0]
+        self.figures[layout::TIME_AT]
     }
 
     /// The run's state, n entries.
     pub fn state(&self) -> &[f64] {
-        &self.figures[4..4 + self.n()]
+        &self.figures[layout::STATE_AT..][..self.n()]
     }
 
     /// The derivative at the run's time and state, n entries.
     pub fn derivative(&self) -> &[f64] {
-        &self.figures[20..20 + self.n()]
+        &self.figures[layout::DERIVATIVE_AT..][..self.n()]
     }
 
     /// One whole step: begins with a differenced Jacobian, answers every question by `f`, and accepts the candidate with `f` there.
@@ -572,7 +578,7 @@ impl Session {
         mut f: F,
     ) -> Result<Stepped, Refusal> {
         let n = self.n();
-        while t.words[0] == 1 {
+        while t.is(layout::ASK) {
             let mut du = [0.0; MOST];
             f(t.told[0], &places[..n], &mut du[..n]);
             t = self.call_supply(&du[..n], &mut places)?;
@@ -582,8 +588,8 @@ impl Session {
         self.accept(&du[..n])?;
         Ok(Stepped {
             error_norm: t.told[0],
-            right_hand_sides: t.words[2] as u32,
-            jacobians: t.words[3] as u32,
+            right_hand_sides: t.words[layout::RHS_AT] as u32,
+            jacobians: t.words[layout::JACOBIANS_AT] as u32,
         })
     }
 }

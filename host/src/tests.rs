@@ -12,6 +12,15 @@ fn pair(t: f64, u: &[f64], du: &mut [f64]) {
     du[1] = u[0] - u[1];
 }
 
+#[test]
+fn the_layout_is_that_of_the_core() {
+    let lines: String = layout::ALL
+        .iter()
+        .map(|(name, value)| format!("{name} {value:06}\n"))
+        .collect();
+    assert_eq!(lines, include_str!("../../crates/layout/stdout"));
+}
+
 const PAIR: [f64; 4] = [-1000.0, 0.0, 1.0, -1.0];
 
 fn open(scheme: Scheme) -> Session {

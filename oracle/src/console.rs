@@ -226,7 +226,7 @@ pub fn put_image(out: &mut Vec<u8>, session: &Session) {
     }
 }
 
-fn put_answer(out: &mut Vec<u8>, answer: &Answer) {
+pub fn put_answer(out: &mut Vec<u8>, answer: &Answer) {
     let (outcome, refusal, figure, right_hand_sides, jacobians) = match *answer {
         Answer::Refused(number) => (0, number, 0.0, 0, 0),
         Answer::Ask { time } => (1, 0, time, 0, 0),

@@ -13,7 +13,7 @@ usage: oracle COMMAND
                     float_run, matrix_run, methods_run, console
   lists --check FOLDER [NAME...]
                     makes them anew and compares them with the files
-  console           reads a script of calls (console.md) and writes the replies, by the model of document 01
+  console           reads a script of calls (docs/CONSOLE.md) and writes the replies, by the model of document 01
   script SEED       writes a random script of about 1000 calls
   compare PROGRAM SCRIPTS [SEED]
                     runs so many random scripts, from that seed on, through PROGRAM and through the model";

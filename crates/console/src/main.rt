@@ -3,8 +3,8 @@
 ghost use mathlib.Core.Path.{_≡_};
 ghost use Prim.Native.Nat.{_+_, _*_, _≤_};
 ghost use lib.ListN.{length};
+ghost use Rattle.image.specs.Image.{NUMBERS, FIGURES};
 use session::Answer;
-use session::Attempt;
 use session::History;
 use session::Session;
 use session::Wish;
@@ -15,19 +15,17 @@ struct Next {
     session: Session,
 }
 
-// A reply's figures.
-struct Reply {
-    outcome: u8,
-    refusal: u8,
-    figure: f64,
-    rhs: u32,
-    jacobians: u32,
-}
+// The bytes of a session's image: its numbers, one byte each, then its figures.
+const IMAGE: usize = image::NUMBERS + 8 * image::FIGURES;
 
 // ---- bytes
 
 fn wide(b: u8) -> usize {
     b as usize
+}
+
+fn long(b: u8) -> u64 {
+    b as u64
 }
 
 // Fills all of b from standard input; false where it ends before.
@@ -55,61 +53,17 @@ fn put_doubles(x: &[f64], b: &mut [u8], at: usize)
 }
 
 // A vector that begins at place `at`.
-fn vector(b: &[u8], at: usize) -> [f64; 16]
+fn vector(b: &[u8], at: usize) -> [f64; image::VECTOR]
     requires { ⌜ (at + 128 ≤ length (now b)) × (length (now b) ≤ 65536) ⌝ }
 {
-    let mut x = [0.0; 16];
+    let mut x = [0.0; image::VECTOR];
     doubles(b, at, &mut x);
     x
 }
 
 // ---- replies
 
-fn plain(outcome: u8) -> Reply {
-    Reply {
-        outcome: outcome,
-        refusal: 0,
-        figure: 0.0,
-        rhs: 0,
-        jacobians: 0,
-    }
-}
-
-fn figured(outcome: u8, figure: f64) -> Reply {
-    Reply {
-        outcome: outcome,
-        refusal: 0,
-        figure: figure,
-        rhs: 0,
-        jacobians: 0,
-    }
-}
-
-fn reply_of(answer: Answer) -> Reply {
-    match answer {
-        Answer::Ask(time) => figured(1, time),
-        Answer::Ready(norm, rhs, jacobians) => Reply {
-            outcome: 2,
-            refusal: 0,
-            figure: norm,
-            rhs: rhs,
-            jacobians: jacobians,
-        },
-        Answer::Resting => plain(3),
-        Answer::FirstStep(step) => figured(4, step),
-        Answer::Filled => plain(5),
-        Answer::Norm(norm) => figured(6, norm),
-        Answer::Refused(k) => Reply {
-            outcome: 0,
-            refusal: k,
-            figure: 0.0,
-            rhs: 0,
-            jacobians: 0,
-        },
-    }
-}
-
-fn put_reply(b: &mut [u8], r: Reply)
+fn put_reply(b: &mut [u8], r: image::Reply)
     requires { ⌜ length (now b) ≡ 18 ⌝ }
 {
     wire::write_f64(&mut *b, 2, r.figure);
@@ -121,7 +75,7 @@ fn put_reply(b: &mut [u8], r: Reply)
 
 fn say(answer: Answer) -> bool {
     let mut b = [0u8; 18];
-    put_reply(&mut b, reply_of(answer));
+    put_reply(&mut b, image::reply_of(answer));
     io::write_all(1, &b)
 }
 
@@ -139,50 +93,6 @@ fn say_lent(out: &[f64]) -> bool
     let mut b = [0u8; 4096];
     let end = 8 * out.len();
     say_places(out, &mut b[..end])
-}
-
-// ---- enums as bytes: a number above the last counts as it
-
-fn history_of(b: u8) -> History {
-    if b == 0 {
-        History::Missing
-    } else {
-        History::Held
-    }
-}
-
-fn wish_of(b: u8) -> Wish {
-    if b == 0 {
-        Wish::Difference
-    } else {
-        Wish::Given
-    }
-}
-
-fn attempt_of(b: u8) -> Attempt {
-    if b == 0 {
-        return Attempt::None;
-    }
-    if b == 1 {
-        Attempt::Supplied
-    } else {
-        Attempt::Differenced
-    }
-}
-
-fn history_byte(h: History) -> u8 {
-    match h {
-        History::Missing => 0,
-        History::Held => 1,
-    }
-}
-
-fn attempt_byte(a: Attempt) -> u8 {
-    match a {
-        Attempt::None => 0,
-        Attempt::Supplied => 1,
-        Attempt::Differenced => 2,
-    }
 }
 
 // ---- the run's steps
@@ -232,12 +142,18 @@ fn open_call(s: Session) -> Next {
         vector(&b, 155),
         wire::read_f64(&b, 11),
         wire::read_f64(&b, 19),
-        history_of(b[2]),
+        image::history_of(long(b[2])),
         vector(&b, 283),
     ))
 }
 
-fn begin_lent(s: Session, step: f64, wish: Wish, jacobian: [f64; 256], out: &mut [f64]) -> Next
+fn begin_lent(
+    s: Session,
+    step: f64,
+    wish: Wish,
+    jacobian: [f64; image::MATRIX],
+    out: &mut [f64],
+) -> Next
     requires { ⌜ length (now out) ≤ 512 ⌝ }
 {
     let t = s.begin(step, wish, jacobian, &mut *out);
@@ -254,14 +170,14 @@ fn begin_call(s: Session) -> Next {
         return stop(s);
     }
     let step = wire::read_f64(&b, 1);
-    let wish = wish_of(b[0]);
-    let mut jacobian = [0.0; 256];
+    let wish = image::wish_of(long(b[0]));
+    let mut jacobian = [0.0; image::MATRIX];
     doubles(&b, 9, &mut jacobian);
     let mut out = [-1.5; 512];
     begin_lent(s, step, wish, jacobian, &mut out[..lent])
 }
 
-fn supply_lent(s: Session, answer: [f64; 16], out: &mut [f64]) -> Next
+fn supply_lent(s: Session, answer: [f64; image::VECTOR], out: &mut [f64]) -> Next
     requires { ⌜ length (now out) ≤ 512 ⌝ }
 {
     let t = s.supply(answer, &mut *out);
@@ -434,114 +350,45 @@ fn norm_call(s: Session) -> Next {
 
 // ---- a session's image
 
-fn put_head(s: Session, b: &mut [u8])
-    requires { ⌜ length (now b) ≡ 5029 ⌝ }
+fn put_image(numbers: &[u64], figures: &[f64], b: &mut [u8])
+    requires { ⌜ (length (now numbers) ≡ NUMBERS) × (length (now figures) ≡ FIGURES) × (length (now b) ≡ NUMBERS + 8 * FIGURES) ⌝ }
 {
-    let history = s.history;
-    let attempt = s.attempt;
-    wire::write_f64(&mut *b, 5, s.time);
-    wire::write_f64(&mut *b, 13, s.step);
-    wire::write_f64(&mut *b, 21, s.relative);
-    wire::write_f64(&mut *b, 29, s.absolute);
-    b[0] = s.scheme;
-    b[1] = (s.n % 256) as u8;
-    b[2] = history_byte(history);
-    b[3] = attempt_byte(attempt);
-    b[4] = (s.count % 256) as u8;
-}
-
-fn put_vector(x: [f64; 16], b: &mut [u8], at: usize)
-    requires { ⌜ (at + 128 ≤ length (now b)) × (length (now b) ≤ 65536) ⌝ }
-{
-    put_doubles(&x, b, at);
-}
-
-fn put_jacobian(x: [f64; 256], b: &mut [u8])
-    requires { ⌜ length (now b) ≡ 5029 ⌝ }
-{
-    put_doubles(&x, b, 421);
-}
-
-fn put_answers(x: [f64; 320], b: &mut [u8])
-    requires { ⌜ length (now b) ≡ 5029 ⌝ }
-{
-    put_doubles(&x, b, 2469);
-}
-
-fn put_run(s: Session, b: &mut [u8])
-    requires { ⌜ length (now b) ≡ 5029 ⌝ }
-{
-    let state = s.state;
-    let derivative = s.derivative;
-    let previous = s.previous;
-    put_vector(state, &mut *b, 37);
-    put_vector(derivative, &mut *b, 165);
-    put_vector(previous, &mut *b, 293);
-}
-
-fn put_attempt(s: Session, b: &mut [u8])
-    requires { ⌜ length (now b) ≡ 5029 ⌝ }
-{
-    let jacobian = s.jacobian;
-    let answers = s.answers;
-    put_jacobian(jacobian, &mut *b);
-    put_answers(answers, &mut *b);
-}
-
-fn put_image(s: Session, b: &mut [u8])
-    requires { ⌜ length (now b) ≡ 5029 ⌝ }
-{
-    put_head(s, &mut *b);
-    put_run(s, &mut *b);
-    put_attempt(s, &mut *b);
+    for i in 0..image::NUMBERS {
+        b[i] = (numbers[i] % 256) as u8;
+    }
+    put_doubles(figures, b, image::NUMBERS);
 }
 
 fn show_call(s: Session) -> Next {
-    let mut b = [0u8; 5029];
-    put_image(s, &mut b);
+    let mut numbers = [0u64; image::NUMBERS];
+    let mut figures = [0.0; image::FIGURES];
+    image::pack(s, &mut numbers, &mut figures);
+    let mut b = [0u8; IMAGE];
+    put_image(&numbers, &figures, &mut b);
     let on = io::write_all(1, &b);
     Next { on: on, session: s }
 }
 
-fn image(b: &[u8]) -> Session
-    requires { ⌜ length (now b) ≡ 5029 ⌝ }
+fn loaded(b: &[u8]) -> Session
+    requires { ⌜ length (now b) ≡ NUMBERS + 8 * FIGURES ⌝ }
 {
-    let history = history_of(b[2]);
-    let attempt = attempt_of(b[3]);
-    let state = vector(b, 37);
-    let derivative = vector(b, 165);
-    let previous = vector(b, 293);
-    let mut jacobian = [0.0; 256];
-    doubles(b, 421, &mut jacobian);
-    let mut answers = [0.0; 320];
-    doubles(b, 2469, &mut answers);
-    Session {
-        scheme: b[0],
-        n: wide(b[1]),
-        time: wire::read_f64(b, 5),
-        state: state,
-        derivative: derivative,
-        relative: wire::read_f64(b, 21),
-        absolute: wire::read_f64(b, 29),
-        history: history,
-        previous: previous,
-        attempt: attempt,
-        step: wire::read_f64(b, 13),
-        jacobian: jacobian,
-        count: wide(b[4]),
-        answers: answers,
+    let mut numbers = [0u64; image::NUMBERS];
+    for i in 0..image::NUMBERS {
+        numbers[i] = long(b[i]);
     }
+    let mut figures = [0.0; image::FIGURES];
+    doubles(b, image::NUMBERS, &mut figures);
+    image::unpack(&numbers, &figures)
 }
 
 fn load_call(s: Session) -> Next {
-    let mut b = [0u8; 5029];
+    let mut b = [0u8; IMAGE];
     if !read_all(&mut b) {
         return stop(s);
     }
-    let loaded = image(&b);
     Next {
         on: true,
-        session: loaded,
+        session: loaded(&b),
     }
 }
 
@@ -576,12 +423,12 @@ fn nothing() -> Session {
         0,
         0,
         0.0,
-        [0.0; 16],
-        [0.0; 16],
+        [0.0; image::VECTOR],
+        [0.0; image::VECTOR],
         0.0,
         0.0,
         History::Missing,
-        [0.0; 16],
+        [0.0; image::VECTOR],
     );
     let s = t.session;
     s

@@ -34,5 +34,11 @@ exponential-call-spec =
     (λ c. sym (length-take-le _ _ (omega arith)))
     (λ c. omega arith)
     (λ c. sym (length-take-le _ _ (omega arith)))
-    (λ c κs. let e = length-take-le {A = ℕ} (8 * c .before .before .before .before .before .before .before .before .read-u16 .result) (replicate 4096 0) (omega arith) in let f = length-take-le (c .before .before .before .before .before .before .before .before .read-u16 .result) (replicate 512 (ofBits binary64 0)) (omega arith) in let g = length-take-le (c .before .before .before .before .before .before .read-u162 .result) (replicate 512 (neg (ofBits binary64 0x3ff8_0000_0000_0000))) (omega arith) in (omega (arith, e, f), omega (arith, e), omega (arith, g)))
+    (λ c κs.
+    let lent = c .before .before .before .before .before .before in
+    let entries = lent .before .before in
+    let room = length-take-le {A = ℕ} (8 * entries .read-u16 .result) (replicate 4096 0) (omega arith) in
+    let matrix = length-take-le (entries .read-u16 .result) (replicate 512 (ofBits binary64 0)) (omega arith) in
+    let out = length-take-le (lent .read-u162 .result) (replicate 512 (neg (ofBits binary64 0x3ff8_0000_0000_0000))) (omega arith) in
+    (omega (arith, room, matrix), omega (arith, room), omega (arith, out)))
     (λ c. search needs))

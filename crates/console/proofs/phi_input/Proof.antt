@@ -18,8 +18,14 @@ phi-input-spec =
     (λ c. search needs)
     (λ c. search needs)
     (λ c. search needs)
-    (λ c. sym (length-take-le _ _ (omega (arith, c .before .before .before .before .before .before .before .before .before .before .before .before .before .pre))))
-    (λ c κs. omega (arith, c .before .before .before .before .before .before .before .before .before .before .before .before .before .pre, length-take-le (c .before .before .before .before .before .before .before .before .before .before .before .before .before .args .lent) (replicate 512 (neg (ofBits binary64 0x3ff8_0000_0000_0000))) (omega (arith, c .before .before .before .before .before .before .before .before .before .before .before .before .before .pre))))
+    (λ c.
+    let read = c .before .before .before .before .before .before .before in
+    let start = read .before .before .before .before .before .before in
+    sym (length-take-le _ _ (omega (arith, start .pre))))
+    (λ c κs.
+    let read = c .before .before .before .before .before .before .before in
+    let start = read .before .before .before .before .before .before in
+    omega (arith, start .pre, length-take-le (start .args .lent) (replicate 512 (neg (ofBits binary64 0x3ff8_0000_0000_0000))) (omega (arith, start .pre))))
     (λ c. search needs)
     (λ c. search needs)
     (λ c. search needs))

@@ -20,10 +20,22 @@ phi-matrix-spec =
     (λ c. search needs)
     (λ c. search needs)
     (λ c. search needs)
-    (λ c. sym (length-take-le _ _ (omega (arith, c .before .before .before .before .before .before .before .before .before .before .before .before .pre))))
+    (λ c.
+    let read = c .before .before .before .before .before .before .before in
+    let start = read .before .before .before .before .before in
+    sym (length-take-le _ _ (omega (arith, start .pre))))
     (λ c. search needs)
-    (λ c. sym (length-take-le _ _ (omega (arith, c .before .before .before .before .before .before .before .before .before .before .before .before .before .pre))))
-    (λ c κs. let e = length-take-le {A = ℕ} (8 * c .before .before .before .before .before .before .before .before .before .before .before .before .before .args .inputs) (replicate 4096 0) (omega (arith, c .before .before .before .before .before .before .before .before .before .before .before .before .before .pre)) in let f = length-take-le (c .before .before .before .before .before .before .before .before .before .before .before .before .before .args .inputs) (replicate 512 (ofBits binary64 0)) (omega (arith, c .before .before .before .before .before .before .before .before .before .before .before .before .before .pre)) in (omega (arith, e, f), omega (arith, c .before .before .before .before .before .before .before .before .before .before .before .before .before .pre, e), omega (arith, c .before .before .before .before .before .before .before .before .before .before .before .before .before .pre)))
+    (λ c.
+    let read = c .before .before .before .before .before .before .before .before in
+    let start = read .before .before .before .before .before in
+    sym (length-take-le _ _ (omega (arith, start .pre))))
+    (λ c κs.
+    let read = c .before .before .before .before .before .before .before .before in
+    let start = read .before .before .before .before .before in
+    let inputs = start .args .inputs in
+    let room = length-take-le {A = ℕ} (8 * inputs) (replicate 4096 0) (omega (arith, start .pre)) in
+    let input = length-take-le inputs (replicate 512 (ofBits binary64 0)) (omega (arith, start .pre)) in
+    (omega (arith, room, input), omega (arith, start .pre, room), omega (arith, start .pre)))
     (λ c. search needs)
     (λ c. search needs)
     (λ c. search needs))

@@ -24,5 +24,7 @@ supply-call-spec =
     (λ c κs. search needs)
     (λ c. omega arith)
     (λ c. sym (length-take-le _ _ (omega arith)))
-    (λ c κs. omega (arith, length-take-le (c .before .before .before .before .read-u16 .result) (replicate 512 (neg (ofBits binary64 0x3ff8_0000_0000_0000))) (omega arith)))
+    (λ c κs.
+    let lent = c .before .before .before .before in
+    omega (arith, length-take-le (lent .read-u16 .result) (replicate 512 (neg (ofBits binary64 0x3ff8_0000_0000_0000))) (omega arith)))
     (λ c. search needs))

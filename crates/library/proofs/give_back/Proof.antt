@@ -1,6 +1,5 @@
 -- `library::give_back` meets its contract. Assumes nothing.
 use borrow.Author.Needs.{needs}
-use mathlib.Core.Path.{refl}
 use Rattle.library.proofs.give_back.Statement.{statement}
 use Rattle.library.proofs.give_back.Tie as tie
 
@@ -9,13 +8,28 @@ give-back-spec =
     tie.close
     (tie.spec
     (λ c κs. search needs)
+    (λ c. search needs)
+    (λ c. search needs)
+    (λ c.
+    let said = c .before .before .before .before .before in
+    let refused = said .say .ensures .1 in
+    record {
+      numbers = rw (← refused, c .if1 .taken);
+      figures = rw (← refused, c .if1 .taken);
+      said = said .say .ensures .0;
+    })
     (λ c κs. search needs)
     (λ c. search needs)
     (λ c. search needs)
-    (λ c. record { numbers = rw (← (c .before .refused .ensures), c .if1 .taken); figures = rw (← (c .before .refused .ensures), c .if1 .taken); said = c .before .before .before .before .before .before .put-reply .ensures })
-    (λ c κs. search needs)
     (λ c. search needs)
     (λ c. search needs)
-    (λ c. search needs)
-    (λ c. search needs)
-    (λ c. record { numbers = rw (← (c .before .before .before .before .before .before .before .before .refused .ensures), c .before .before .before .before .before .before .before .if1 .left) (c .before .before .before .before .pack .ensures .0); figures = rw (← (c .before .before .before .before .before .before .before .before .refused .ensures), c .before .before .before .before .before .before .before .if1 .left) (c .before .before .before .before .pack .ensures .1); said = c .before .before .before .before .before .before .before .before .before .before .before .before .before .put-reply .ensures }))
+    (λ c.
+    let packed = c .before .before .before .before in
+    let test = packed .before .before .before in
+    let said = test .before .before .before .before .before in
+    let refused = said .say .ensures .1 in
+    record {
+      numbers = rw (← refused, test .if1 .left) (packed .pack .ensures .0);
+      figures = rw (← refused, test .if1 .left) (packed .pack .ensures .1);
+      said = said .say .ensures .0;
+    }))

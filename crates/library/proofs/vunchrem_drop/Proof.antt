@@ -1,22 +1,41 @@
 -- `library::vunchrem_drop` meets its contract. Assumes nothing.
 use borrow.Author.Needs.{needs}
 use mathlib.Core.Path.{refl}
+use mathlib.Core.Bool.{true}
+use Rattle.library.specs.Library.{Crossing}
+use Rattle.library.proofs.Laws.{tested}
 use Rattle.library.proofs.vunchrem_drop.Statement.{statement}
 use Rattle.library.proofs.vunchrem_drop.Tie as tie
 
 pub vunchrem-drop-spec : {M : Type 1} → statement M
+unfolding Crossing
 vunchrem-drop-spec =
     tie.close
     (tie.spec
-    (λ c. (λ h. absurd (c .if1 .taken (h .0 .0)), λ _. (refl, ((refl, refl), (refl, refl)))))
-    (λ c. (λ h. absurd (c .if2 .taken (h .0 .1)), λ _. (refl, ((refl, refl), (refl, refl)))))
-    (λ c. (λ h. absurd (c .if3 .taken (h .1 .0)), λ _. (refl, ((refl, refl), (refl, refl)))))
-    (λ c. (λ h. absurd (c .if4 .taken (h .1 .1)), λ _. (refl, ((refl, refl), (refl, refl)))))
     (λ c κs. search needs)
+    (λ c κs.
+    let test = c .before .before in
+    let fit = tested true _ (test .before .lent .ensures) (test .if1 .taken) in
+    (fit .numbers, fit .figures))
     (λ c κs. search needs)
-    (λ c κs. search needs)
+    (λ c κs.
+    let held = c .before .before .before .before .before in
+    let test = held .before .before .before in
+    tested true _ (test .before .lent .ensures) (test .if1 .taken))
     (λ c. search needs)
     (λ c. search needs)
     (λ c. search needs)
     (λ c. search needs)
-    (λ c. (λ _. (refl, rw (← (c .before .before .before .before .before .before .before .before .before .before .before .before .before .before .unpack .ensures), ← (c .before .before .before .before .before .before .before .before .before .before .before .before .before .drop .ensures)) (c .before .before .before .before .before .before .before .before .give-back .ensures)), λ h. absurd (h ((c .before .before .before .before .before .before .before .before .before .before .before .before .before .before .before .before .before .before .before .before .if1 .left, c .before .before .before .before .before .before .before .before .before .before .before .before .before .before .before .before .before .before .before .if2 .left), (c .before .before .before .before .before .before .before .before .before .before .before .before .before .before .before .before .before .before .if3 .left, c .before .before .before .before .before .before .before .before .before .before .before .before .before .before .before .before .before .if4 .left))))))
+    (λ c.
+    let written = c .before .before .before .before in
+    let back = written .before .before .before .before in
+    let dropped = back .before .before .before .before .before in
+    let held = dropped .before in
+    let test = held .before .before .before in
+    rw (← (test .before .lent .ensures), test .if1 .taken, ← (held .unpack .ensures), ← (dropped .drop .ensures))
+    (refl, back .give-back .ensures))
+    (λ c. search needs)
+    (λ c. search needs)
+    (λ c. search needs)
+    (λ c. search needs)
+    (λ c. rw (← (c .before .lent .ensures), c .if1 .left) (refl, refl)))

@@ -1,24 +1,60 @@
 -- `library::vunchrem_error_norm` meets its contract. Assumes nothing.
 use borrow.Author.Needs.{needs}
-use mathlib.Core.Path.{refl, _∙_}
-use Rattle.library.proofs.Laws.{whole}
+use mathlib.Core.Path.{refl, sym, _∙_}
+use Rattle.library.specs.Library.{Crossing}
+use Rattle.library.proofs.Laws.{and-left, and-right, three, hears}
 use Rattle.library.proofs.vunchrem_error_norm.Statement.{statement}
 use Rattle.library.proofs.vunchrem_error_norm.Tie as tie
 
 pub vunchrem-error-norm-spec : {M : Type 1} → statement M
+unfolding Crossing
 vunchrem-error-norm-spec =
     tie.close
     (tie.spec
-    (λ c. (λ h. absurd (c .if1 .taken (h .1)), λ _. (refl, (refl, refl))))
-    (λ c. (λ h. absurd (c .if2 .taken (h .2)), λ _. (refl, (refl, refl))))
-    (λ c. (λ h. absurd (c .if3 .taken (h .3)), λ _. (refl, (refl, refl))))
-    (λ c. (λ h. absurd (c .if4 .taken (h .0 .0)), λ _. (refl, (refl, refl))))
-    (λ c. (λ h. absurd (c .if5 .taken (h .0 .1)), λ _. (refl, (refl, refl))))
     (λ c κs. search needs)
     (λ c κs. search needs)
+    (λ c κs.
+    let given = c .before .before .before .before in
+    let long = three _ _ _ (sym (given .three .ensures) ∙ and-left (given .three .result) (c .before .hearing .result) (c .if1 .taken)) in
+    long .first)
+    (λ c κs.
+    let test = c .before in
+    let given = test .before .before .before .before in
+    let long = three _ _ _ (sym (given .three .ensures) ∙ and-left (given .three .result) (test .before .hearing .result) (test .if1 .taken)) in
+    long .second)
+    (λ c κs.
+    let test = c .before .before in
+    let given = test .before .before .before .before in
+    let long = three _ _ _ (sym (given .three .ensures) ∙ and-left (given .three .result) (test .before .hearing .result) (test .if1 .taken)) in
+    long .third)
     (λ c κs. search needs)
-    (λ c κs. search needs)
-    (λ c κs. search needs)
+    (λ c κs.
+    let normed = c .before .before in
+    let test = normed .before .before .before .before in
+    let given = test .before .before .before .before in
+    hears _ (sym (test .before .hearing .ensures) ∙ and-right (given .three .result) (test .before .hearing .result) (test .if1 .taken)))
     (λ c. search needs)
     (λ c. search needs)
-    (λ c. (λ _. (refl, rw (← ((c .before .before .before .before .before .before .before .before .before .before .vector .ensures) ∙ whole (c .before .before .before .before .before .before .before .before .before .before .before .before .before .before .before .before .before .before .before .before .before .args .error .now) 16 (c .before .before .before .before .before .before .before .before .before .before .before .before .before .before .before .if1 .left)), ← ((c .before .before .before .before .before .before .before .before .before .vector2 .ensures) ∙ whole (c .before .before .before .before .before .before .before .before .before .before .before .before .before .before .before .before .before .before .before .before .before .args .state .now) 16 (c .before .before .before .before .before .before .before .before .before .before .before .before .before .before .if2 .left)), ← ((c .before .before .before .before .before .before .before .before .vector3 .ensures) ∙ whole (c .before .before .before .before .before .before .before .before .before .before .before .before .before .before .before .before .before .before .before .before .before .args .candidate .now) 16 (c .before .before .before .before .before .before .before .before .before .before .before .before .before .if3 .left)), ← (c .before .before .before .before .before .before .before .error-norm .ensures)) (c .before .before .before .before .put-reply .ensures)), λ h. absurd (h ((c .before .before .before .before .before .before .before .before .before .before .before .before .if4 .left, c .before .before .before .before .before .before .before .before .before .before .before .if5 .left), c .before .before .before .before .before .before .before .before .before .before .before .before .before .before .before .if1 .left, c .before .before .before .before .before .before .before .before .before .before .before .before .before .before .if2 .left, c .before .before .before .before .before .before .before .before .before .before .before .before .before .if3 .left)))))
+    (λ c.
+    let said = c .before .before .before .before in
+    let normed = said .before .before .before in
+    let candidate = normed .before in
+    let state = candidate .before in
+    let error = state .before in
+    let test = error .before in
+    let given = test .before .before .before .before in
+    rw (
+      ← (given .three .ensures),
+      ← (test .before .hearing .ensures),
+      test .if1 .taken,
+      ← (error .vector-of .ensures),
+      ← (state .vector-of2 .ensures),
+      ← (candidate .vector-of3 .ensures),
+      ← (normed .error-norm .ensures),
+    )
+    (refl, said .say .ensures .0))
+    (λ c. search needs)
+    (λ c. search needs)
+    (λ c.
+    let given = c .before .before .before .before in
+    rw (← (given .three .ensures), ← (c .before .hearing .ensures), c .if1 .left) (refl, refl)))

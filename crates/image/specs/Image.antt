@@ -1,0 +1,193 @@
+-- A session's image: the numbers and figures that it crosses to other programs as, and what is told of an answer. Definitions only.
+use Prim.Native.Nat.{ℕ, _+_, _*_, _≤_, _<_}
+use mathlib.Core.Path.{_≡_}
+use mathlib.Core.Bool.{cond}
+use mathlib.Core.List.{List, [], _∷_, _++_}
+use lib.Dec.{ltb, eqb}
+use lib.Ieee.{Float}
+use lib.ListN.{length, getD}
+use Rattle.loops.specs.Loop.{tab, _!_}
+use Rattle.image.specs.declared.Reply.{Reply}
+use Rattle.session.specs.Values.{Values}
+use Rattle.session.specs.declared.Session.{Session}
+use Rattle.session.specs.declared.History.{History}
+use Rattle.session.specs.declared.History.the-variants.{Missing, Held}
+use Rattle.session.specs.declared.Attempt.{Attempt}
+use Rattle.session.specs.declared.Attempt.the-variants.{None, Supplied, Differenced}
+use Rattle.session.specs.declared.Wish.{Wish}
+use Rattle.session.specs.declared.Wish.the-variants.{Given, Difference}
+
+-- ---- how many there are, and where each field stands: behind the one before it. The code's constants have the same names, as STATE_AT for stateAt
+
+-- places of a vector, of a Jacobian, of the 20 answers
+abbrev pub VECTOR : ℕ
+VECTOR = 16
+
+abbrev pub MATRIX : ℕ
+MATRIX = VECTOR * VECTOR
+
+abbrev pub ANSWERS : ℕ
+ANSWERS = 20 * VECTOR
+
+-- among the numbers
+abbrev pub schemeAt : ℕ
+schemeAt = 0
+
+abbrev pub nAt : ℕ
+nAt = schemeAt + 1
+
+abbrev pub historyAt : ℕ
+historyAt = nAt + 1
+
+abbrev pub attemptAt : ℕ
+attemptAt = historyAt + 1
+
+abbrev pub countAt : ℕ
+countAt = attemptAt + 1
+
+abbrev pub NUMBERS : ℕ
+NUMBERS = countAt + 1
+
+-- among the figures
+abbrev pub timeAt : ℕ
+timeAt = 0
+
+abbrev pub stepAt : ℕ
+stepAt = timeAt + 1
+
+abbrev pub relativeAt : ℕ
+relativeAt = stepAt + 1
+
+abbrev pub absoluteAt : ℕ
+absoluteAt = relativeAt + 1
+
+abbrev pub stateAt : ℕ
+stateAt = absoluteAt + 1
+
+abbrev pub derivativeAt : ℕ
+derivativeAt = stateAt + VECTOR
+
+abbrev pub previousAt : ℕ
+previousAt = derivativeAt + VECTOR
+
+abbrev pub jacobianAt : ℕ
+jacobianAt = previousAt + VECTOR
+
+abbrev pub answersAt : ℕ
+answersAt = jacobianAt + MATRIX
+
+abbrev pub FIGURES : ℕ
+FIGURES = answersAt + ANSWERS
+
+-- among the words of a reply
+abbrev pub outcomeAt : ℕ
+outcomeAt = 0
+
+abbrev pub refusalAt : ℕ
+refusalAt = outcomeAt + 1
+
+abbrev pub rhsAt : ℕ
+rhsAt = refusalAt + 1
+
+abbrev pub jacobiansAt : ℕ
+jacobiansAt = rhsAt + 1
+
+abbrev pub WORDS : ℕ
+WORDS = jacobiansAt + 1
+
+-- ---- enums as numbers: a number above the last counts as it
+
+-- a scheme that no byte holds counts as 255
+unfoldable pub schemeOf : ℕ → ℕ
+schemeOf x = cond (ltb x 256) x 255
+
+unfoldable pub historyOf : ℕ → History
+historyOf x = cond (eqb x 0) Missing Held
+
+unfoldable pub attemptOf : ℕ → Attempt
+attemptOf x = cond (eqb x 0) None (cond (eqb x 1) Supplied Differenced)
+
+unfoldable pub wishOf : ℕ → Wish
+wishOf x = cond (eqb x 0) Difference Given
+
+unfoldable pub historyNumber : History → ℕ
+historyNumber Missing = 0
+historyNumber Held = 1
+
+unfoldable pub attemptNumber : Attempt → ℕ
+attemptNumber None = 0
+attemptNumber Supplied = 1
+attemptNumber Differenced = 2
+
+-- ---- a session as numbers and figures
+
+-- n figures of x from place `at` on
+unfoldable pub part : List Float → ℕ → ℕ → List Float
+part x at n = tab n (λ i. x ! (at + i))
+
+-- the first n of x
+unfoldable pub first : ℕ → List Float → List Float
+first n x = tab n (λ i. x ! i)
+
+unfoldable pub unpacked : List ℕ → List Float → Session
+unpacked numbers figures = record {
+  scheme = schemeOf (getD numbers schemeAt 0);
+  n = getD numbers nAt 0;
+  time = figures ! timeAt;
+  state = part figures stateAt VECTOR;
+  derivative = part figures derivativeAt VECTOR;
+  relative = figures ! relativeAt;
+  absolute = figures ! absoluteAt;
+  history = historyOf (getD numbers historyAt 0);
+  previous = part figures previousAt VECTOR;
+  attempt = attemptOf (getD numbers attemptAt 0);
+  step = figures ! stepAt;
+  jacobian = part figures jacobianAt MATRIX;
+  count = getD numbers countAt 0;
+  answers = part figures answersAt ANSWERS;
+}
+
+unfoldable pub packedNumbers : Session → List ℕ
+packedNumbers s = s .scheme ∷ s .n ∷ historyNumber (s .history) ∷ attemptNumber (s .attempt) ∷ s .count ∷ []
+
+-- a session's arrays, each with its size, in the order of their places
+abbrev pub arrays : Session → List (ℕ × List Float)
+arrays s = (VECTOR, s .state) ∷ (VECTOR, s .derivative) ∷ (VECTOR, s .previous) ∷ (MATRIX, s .jacobian) ∷ (ANSWERS, s .answers) ∷ []
+
+-- arrays one behind the other
+unfoldable pub joined : List (ℕ × List Float) → List Float
+joined [] = []
+joined ((n, x) ∷ more) = first n x ++ joined more
+
+unfoldable pub packedFigures : Session → List Float
+packedFigures s = (s .time ∷ s .step ∷ s .relative ∷ s .absolute ∷ []) ++ joined (arrays s)
+
+-- ---- packing and unpacking are each other's inverse (proofs/Inverse.antt)
+
+-- a session of the code's types: its scheme is a byte, and its arrays have their lengths
+pub record Typed (s : Session) : Type 0 where
+  pub scheme : s .scheme < 256
+  pub state : length (s .state) ≡ VECTOR
+  pub derivative : length (s .derivative) ≡ VECTOR
+  pub previous : length (s .previous) ≡ VECTOR
+  pub jacobian : length (s .jacobian) ≡ MATRIX
+  pub answers : length (s .answers) ≡ ANSWERS
+
+-- slices that hold a session: their lengths, and numbers that their fields can hold
+pub record Holds (numbers' : List ℕ) (figures' : List Float) : Type 0 where
+  pub numbers : length numbers' ≡ NUMBERS
+  pub figures : length figures' ≡ FIGURES
+  pub scheme : getD numbers' schemeAt 0 < 256
+  pub history : getD numbers' historyAt 0 ≤ 1
+  pub attempt : getD numbers' attemptAt 0 ≤ 2
+
+pub record Inverse : Type 0 where
+  pub unpackPack : (s : Session) → Typed s → unpacked (packedNumbers s) (packedFigures s) ≡ s
+  pub packUnpackNumbers : (numbers : List ℕ) (figures : List Float) → Holds numbers figures → packedNumbers (unpacked numbers figures) ≡ numbers
+  pub packUnpackFigures : (numbers : List ℕ) (figures : List Float) → Holds numbers figures → packedFigures (unpacked numbers figures) ≡ figures
+
+-- ---- what is told of an answer
+
+-- a reply's fields
+abbrev pub fields : Reply → Values
+fields r = record { outcome = r .outcome; refusal = r .refusal; figure = r .figure; rhs = r .rhs; jacobians = r .jacobians }

@@ -1,0 +1,51 @@
+//! How many numbers, figures and words cross to the core, where each field stands among them, and the outcomes' numbers: as the core's crate
+//! `image` has them. The tests compare them with what that crate says (crates/layout/stdout).
+
+macro_rules! constants {
+    ($($name:ident = $value:expr;)*) => {
+        $(
+            #[allow(dead_code)]
+            pub const $name: usize = $value;
+        )*
+        #[cfg(test)]
+        pub const ALL: &[(&str, usize)] = &[$((stringify!($name), $name)),*];
+    };
+}
+
+constants! {
+    VECTOR = 16;
+    MATRIX = VECTOR * VECTOR;
+    ANSWERS = 20 * VECTOR;
+    // among the numbers
+    SCHEME_AT = 0;
+    N_AT = SCHEME_AT + 1;
+    HISTORY_AT = N_AT + 1;
+    ATTEMPT_AT = HISTORY_AT + 1;
+    COUNT_AT = ATTEMPT_AT + 1;
+    NUMBERS = COUNT_AT + 1;
+    // among the figures
+    TIME_AT = 0;
+    STEP_AT = TIME_AT + 1;
+    RELATIVE_AT = STEP_AT + 1;
+    ABSOLUTE_AT = RELATIVE_AT + 1;
+    STATE_AT = ABSOLUTE_AT + 1;
+    DERIVATIVE_AT = STATE_AT + VECTOR;
+    PREVIOUS_AT = DERIVATIVE_AT + VECTOR;
+    JACOBIAN_AT = PREVIOUS_AT + VECTOR;
+    ANSWERS_AT = JACOBIAN_AT + MATRIX;
+    FIGURES = ANSWERS_AT + ANSWERS;
+    // among the words of a reply
+    OUTCOME_AT = 0;
+    REFUSAL_AT = OUTCOME_AT + 1;
+    RHS_AT = REFUSAL_AT + 1;
+    JACOBIANS_AT = RHS_AT + 1;
+    WORDS = JACOBIANS_AT + 1;
+    // the outcomes
+    REFUSED = 0;
+    ASK = 1;
+    READY = 2;
+    RESTING = 3;
+    FIRST_STEP = 4;
+    FILLED = 5;
+    NORM = 6;
+}

@@ -1,0 +1,93 @@
+//! The model's image and replies have the layout that the core's crate `image` has: crates/layout writes its constants, and the gate holds that
+//! program to its stdout.
+
+use oracle::console::{put_answer, put_image};
+use oracle::model::{ANSWERS, Answer, Attempt, PLACES, Session};
+
+fn constant(name: &str) -> usize {
+    let lines = include_str!("../../crates/layout/stdout").lines();
+    let mut found = lines.filter_map(|line| line.strip_prefix(name)?.strip_prefix(' '));
+    let value = found.next().unwrap_or_else(|| panic!("no {name}"));
+    assert!(found.next().is_none(), "{name} twice");
+    value.parse().unwrap()
+}
+
+fn image(session: &Session) -> Vec<u8> {
+    let mut bytes = Vec::new();
+    put_image(&mut bytes, session);
+    bytes
+}
+
+// The number at a place, and the figure.
+fn number(bytes: &[u8], name: &str) -> u8 {
+    bytes[constant(name)]
+}
+
+fn figure(bytes: &[u8], at: usize) -> f64 {
+    let at = constant("NUMBERS") + 8 * at;
+    f64::from_le_bytes(bytes[at..at + 8].try_into().unwrap())
+}
+
+#[test]
+fn an_image_has_its_fields_where_the_core_has_them() {
+    assert_eq!(constant("VECTOR"), PLACES);
+    assert_eq!(constant("MATRIX"), PLACES * PLACES);
+    assert_eq!(constant("ANSWERS"), ANSWERS * PLACES);
+    // A different number in every place, in the order of the fields.
+    let mut next = 0.0;
+    let mut one = || {
+        next += 1.0;
+        next
+    };
+    let mut session = Session::blank();
+    (session.scheme, session.n, session.count) = (201, 202, 203);
+    (session.history_held, session.attempt) = (true, Attempt::Differenced);
+    session.time = one();
+    session.step = one();
+    session.relative = one();
+    session.absolute = one();
+    session.state = std::array::from_fn(|_| one());
+    session.derivative = std::array::from_fn(|_| one());
+    session.history = std::array::from_fn(|_| one());
+    session.jacobian = std::array::from_fn(|_| one());
+    session.answers = std::array::from_fn(|_| std::array::from_fn(|_| one()));
+    let bytes = image(&session);
+    assert_eq!(bytes.len(), constant("NUMBERS") + 8 * constant("FIGURES"));
+    assert_eq!(number(&bytes, "SCHEME_AT"), session.scheme);
+    assert_eq!(number(&bytes, "N_AT"), session.n);
+    assert_eq!(number(&bytes, "HISTORY_AT"), 1);
+    assert_eq!(number(&bytes, "ATTEMPT_AT"), 2);
+    assert_eq!(number(&bytes, "COUNT_AT"), session.count);
+    assert_eq!(figure(&bytes, constant("TIME_AT")), session.time);
+    assert_eq!(figure(&bytes, constant("STEP_AT")), session.step);
+    assert_eq!(figure(&bytes, constant("RELATIVE_AT")), session.relative);
+    assert_eq!(figure(&bytes, constant("ABSOLUTE_AT")), session.absolute);
+    for i in 0..PLACES {
+        assert_eq!(figure(&bytes, constant("STATE_AT") + i), session.state[i]);
+        assert_eq!(figure(&bytes, constant("DERIVATIVE_AT") + i), session.derivative[i]);
+        assert_eq!(figure(&bytes, constant("PREVIOUS_AT") + i), session.history[i]);
+    }
+    for i in 0..PLACES * PLACES {
+        assert_eq!(figure(&bytes, constant("JACOBIAN_AT") + i), session.jacobian[i]);
+    }
+    for i in 0..ANSWERS * PLACES {
+        assert_eq!(figure(&bytes, constant("ANSWERS_AT") + i), session.answers[i / PLACES][i % PLACES]);
+    }
+}
+
+#[test]
+fn a_reply_has_the_outcomes_number() {
+    for (name, answer) in [
+        ("REFUSED", Answer::Refused(7)),
+        ("ASK", Answer::Ask { time: 1.0 }),
+        ("READY", Answer::Ready { norm: 1.0, right_hand_sides: 2, jacobians: 1 }),
+        ("RESTING", Answer::Resting),
+        ("FIRST_STEP", Answer::FirstStep(1.0)),
+        ("FILLED", Answer::Filled),
+        ("NORM", Answer::Norm(1.0)),
+    ] {
+        let mut reply = Vec::new();
+        put_answer(&mut reply, &answer);
+        assert_eq!(usize::from(reply[0]), constant(name), "{name}");
+    }
+}
