@@ -3,7 +3,7 @@ use Prim.Native.Nat.{ℕ, zero, suc, _<_}
 use native.Mathlib.Decide.{decLt}
 use native.Mathlib.Omega.{arith}
 use mathlib.Core.Path.{_≡_, refl, sym, ap, _∙_, subst, subst₂}
-use mathlib.Core.Bool.{Bool, true, false, cond, _&&_, true≢false, false≢true}
+use mathlib.Core.Bool.{Bool, true, false, cond, _&&_, and-false, true≢false, false≢true}
 use mathlib.Core.List.{List, []}
 use lib.Dec.{eqb, leb}
 use lib.Ieee.{Float}
@@ -21,7 +21,8 @@ use Rattle.session.specs.declared.Wish.{Wish}
 use Rattle.session.specs.declared.Wish.the-variants.{Given, Difference}
 use Rattle.session.specs.declared.History.{History}
 use Rattle.session.specs.Session.{usedHistory, usedJacobian, sizeOk, wanted, stepOk, good1, fault}
-use Rattle.session.specs.Calls.{Outcome, outcome, tell, unless, except, opened, nothing, hasError, readyOf, shown, arrived, settled, faultVector, attemptOf, faultBegin, openCall, beginCall, supplyCall, acceptCall, dropCall, firstStepCall}
+use Rattle.session.specs.Calls.{Outcome, outcome, tell, unless, except, opened, nothing, hasError, readyOf, shown, arrived, settled, faultVector, attemptOf, faultBegin, openCall}
+use Rattle.session.specs.Calls.{beginCall, supplyCall, acceptCall, dropCall, firstStepCall}
 use Rattle.mirror.specs.Mirror.{within, isRefused}
 use Rattle.mirror.proofs.Vectors.{Vecs, cross}
 use Rattle.mirror.proofs.Steps.{Progresses, refused-m, asking-m, ended-m}
@@ -124,7 +125,8 @@ module _ {n : ℕ} {σ : ℕ → Bool} where
   drop-m S = unless-m _ _ (fault-m _ S) (alive S) (record { answers = refl; sessions = alive (rested-m S) })
 
   first-told : {s s' : Session} (z : Float) → Lives n σ s s'
-      → Tolds n σ (tell (FirstStep (firstStep (s .n) (s .relative) (s .absolute) (s .state) (s .derivative) z)) s) (tell (FirstStep (firstStep (s' .n) (s' .relative) (s' .absolute) (s' .state) (s' .derivative) z)) s')
+      → Tolds n σ (tell (FirstStep (firstStep (s .n) (s .relative) (s .absolute) (s .state) (s .derivative) z)) s)
+      (tell (FirstStep (firstStep (s' .n) (s' .relative) (s' .absolute) (s' .state) (s' .derivative) z)) s')
   first-told z (live k t rtol atol h held a c N D U F W J R) = record { answers = ap FirstStep (first-m rtol atol z (vecs U) (vecs F)); sessions = alive (live k t rtol atol h held a c N D U F W J R) }
 
   pub firstStep-m : {s s' : Session} (z : Float) → Lives n σ s s' → Tolds n σ (firstStepCall s z) (firstStepCall s' z)
@@ -142,10 +144,6 @@ shown-refused b s o (ended x d g) e = absurd (false≢true e)
 fault-size : (phase : _) (s : Session) → sizeOk (s .n) ≡ false → fault phase s ≡ 1
 unfolding fault good1
 fault-size phase s e = rw e
-
-and-false : (b : Bool) → b && false ≡ false
-and-false true = refl
-and-false false = refl
 
 size-past : (n : ℕ) → 16 < n → sizeOk n ≡ false
 unfolding sizeOk

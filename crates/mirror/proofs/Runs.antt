@@ -3,14 +3,14 @@ use Prim.Native.Nat.{ℕ, _/_, _%_, _≤_, _<_}
 use native.Mathlib.Decide.{decLt}
 use native.Mathlib.Omega.{arith}
 use mathlib.Core.Path.{_≡_, refl, sym, ap, subst, subst₂}
-use mathlib.Core.Logic.{inl, inr}
 use mathlib.Core.Bool.{Bool, true, false, _&&_}
 use mathlib.Core.List.{List}
 use lib.Dec.{ltb, leb·suc-zero}
 use lib.Ieee.{Float, nan, inf, fin}
 use lib.ListN.{length}
 use Rattle.loops.specs.Loop.{tab, _!_}
-use Rattle.loops.proofs.Loops.{length-tab, tab-at}
+use Rattle.loops.proofs.Loops.{past-end, length-tab, tab-at}
+use Rattle.float.proofs.Signs.{false-unlike}
 use Rattle.session.specs.declared.Session.{Session}
 use Rattle.session.specs.declared.History.{History}
 use Rattle.session.specs.declared.History.the-variants.{Missing, Held}
@@ -19,9 +19,10 @@ use Rattle.session.specs.declared.Attempt.the-variants.{None, Supplied, Differe
 use Rattle.session.specs.declared.Wish.the-variants.{Given, Difference}
 use Rattle.session.specs.Session.{usedHistory, usedJacobian}
 use Rattle.session.specs.Calls.{Outcome, nothing, opened}
-use Rattle.mirror.specs.Mirror.{Opening, Call, perform, opening, run, flip, flipped, inHistory, inWish, inJacobian, inAnswers, flippedOpening, FlippedCall, begins, supplies, accepts, drops, firstSteps, FlippedCalls, no-call, and-call, isRefused, wishesDifference, Undifferenced, Zero, Agrees, Alike, Mirrored, SameOutcome, SameOutcomes, no-outcome, and-outcome, MirroredRuns}
-use Rattle.mirror.proofs.Floats.{Mirror, m-nan, m-inf, m-fin, m-zero, m-flip, agrees, false-unlike}
-use Rattle.mirror.proofs.Vectors.{past-end}
+use Rattle.mirror.specs.Mirror.{Opening, Call, perform, opening, run, flip, flipped, inHistory, inWish, inJacobian, inAnswers, flippedOpening, FlippedCall, begins, supplies, accepts}
+use Rattle.mirror.specs.Mirror.{drops, firstSteps, FlippedCalls, no-call, and-call, isRefused, wishesDifference, Undifferenced, Alike, Mirrored, SameOutcome, SameOutcomes}
+use Rattle.mirror.specs.Mirror.{no-outcome, and-outcome, MirroredRuns}
+use Rattle.mirror.proofs.Floats.{m-flip, agrees}
 use Rattle.mirror.proofs.Places.{At, at-nan, Placed, in-use, blank-m}
 use Rattle.mirror.proofs.Sessions.{live, Sessions, void, alive}
 use Rattle.mirror.proofs.Calls.{Outcomes, bare-m, begin-m, difference-m, supply-m, accept-m, drop-m, firstStep-m, begin-void, supply-void, accept-void, drop-void, firstStep-void, open-m}
@@ -91,7 +92,8 @@ call-m (firstSteps z) (alive S) q q' = bare-m (firstStep-m z S)
 opening-m : (turned : ℕ → Bool) (o : Opening) → Outcomes (o .n) turned (opening o) (opening (flippedOpening turned o))
 unfolding opening flippedOpening
 opening-m turned o =
-    bare-m (open-m (o .scheme) (o .time) (o .relative) (o .absolute) (o .history) (flipped-m _ _ (o .state)) (flipped-m _ _ (o .derivative)) (in-use (history-places (o .history) (o .n)) (flipped-m _ _ (o .previous))))
+    bare-m (open-m (o .scheme) (o .time) (o .relative) (o .absolute) (o .history) (flipped-m _ _ (o .state)) (flipped-m _ _ (o .derivative))
+    (in-use (history-places (o .history) (o .n)) (flipped-m _ _ (o .previous))))
 
 -- ---- what the relations say
 alike : {used turned : ℕ → Bool} {x y : List Float} → Placed used turned x y → Alike used turned x y

@@ -8,6 +8,7 @@ use lib.Dec.{eqb}
 use lib.IntN.{pos}
 use lib.Ieee.{Float, binary64, ofInt}
 use Rattle.loops.specs.Loop.{_!_}
+use Rattle.float.proofs.Sums.{sum-ext, most-ext}
 use Rattle.float.specs.Arith.{_⊕_, _⊗_, _⊘_, zero+, finite, abs, larger, powi2}
 use Rattle.float.specs.Root.{sqrt}
 use Rattle.engine.specs.Engine.{ratio, errorNorm, rate, estimate, clamp, firstStep}
@@ -20,7 +21,7 @@ use Rattle.session.specs.Session.{usedHistory, usedJacobian, sizeOk, stepClear,
 use Rattle.session.specs.Calls.{opened, nothing, begun, rested, answered, moved}
 use Rattle.mirror.specs.Mirror.{within}
 use Rattle.mirror.proofs.Floats.{abs-m, div-m, square-m}
-use Rattle.mirror.proofs.Vectors.{Vecs, cross, sum-eq, most-eq}
+use Rattle.mirror.proofs.Vectors.{Vecs, cross}
 use Rattle.mirror.proofs.Passes.{points}
 use Rattle.mirror.proofs.Steps.{Progresses, refused-m, step-m}
 use Rattle.mirror.proofs.Places.{Placed, slots, slot, blank-m, finite-p, clear-p, clear-answers, vecs, mats, answer-m, store-m}
@@ -36,7 +37,22 @@ pub data Lives (n : ℕ) (σ : ℕ → Bool) : Session → Session → Type 0 wh
       → Placed (within n) σ u u' → Placed (within n) σ f f' → Placed (within (usedHistory held n)) σ w w' → Placed (within (usedJacobian a n)) (cross n σ) j j' → Placed (slots c n) (slot σ) r r'
       → Lives n σ
       (record { scheme = k; n = n; time = t; state = u; derivative = f; relative = rtol; absolute = atol; history = held; previous = w; attempt = a; step = h; jacobian = j; count = c; answers = r })
-      (record { scheme = k; n = n; time = t; state = u'; derivative = f'; relative = rtol; absolute = atol; history = held; previous = w'; attempt = a; step = h; jacobian = j'; count = c; answers = r' })
+      (record {
+        scheme = k;
+        n = n;
+        time = t;
+        state = u';
+        derivative = f';
+        relative = rtol;
+        absolute = atol;
+        history = held;
+        previous = w';
+        attempt = a;
+        step = h;
+        jacobian = j';
+        count = c;
+        answers = r';
+      })
 
 pub data Sessions (n : ℕ) (σ : ℕ → Bool) : Session → Session → Type 0 where
   -- what a refused open gave back
@@ -92,7 +108,7 @@ module _ {n : ℕ} {σ : ℕ → Bool} where
 
   pub norm-m : (rtol atol : Float) {u u' x x' e e' : List Float} → Vecs n σ u u' → Vecs n σ x x' → Vecs n σ e e' → errorNorm n rtol atol u x e ≡ errorNorm n rtol atol u' x' e'
   unfolding errorNorm
-  norm-m rtol atol U X E = ap (λ (z : Float). sqrt (z ⊘ ofInt binary64 (pos n))) (sum-eq n _ _ (ratio-m rtol atol U X E))
+  norm-m rtol atol U X E = ap (λ (z : Float). sqrt (z ⊘ ofInt binary64 (pos n))) (sum-ext n _ _ (ratio-m rtol atol U X E))
 
   rate-m : (rtol atol : Float) {u u' f f' : List Float} → Vecs n σ u u' → Vecs n σ f f' → (i : ℕ) → i < n → rate rtol atol u f i ≡ rate rtol atol u' f' i
   unfolding rate
@@ -101,7 +117,7 @@ module _ {n : ℕ} {σ : ℕ → Bool} where
 
   pub first-m : (rtol atol largest : Float) {u u' f f' : List Float} → Vecs n σ u u' → Vecs n σ f f' → firstStep n rtol atol u f largest ≡ firstStep n rtol atol u' f' largest
   unfolding firstStep
-  first-m rtol atol largest U F = ap (λ (z : Float). clamp (estimate z) largest) (most-eq n zero+ _ _ (rate-m rtol atol U F))
+  first-m rtol atol largest U F = ap (λ (z : Float). clamp (estimate z) largest) (most-ext n _ _ zero+ (rate-m rtol atol U F))
 
   -- ---- the attempt, as far as its answers go
   history-m : {w w' : List Float} (held : History) → Placed (within (usedHistory held n)) σ w w' → isHeld held ≡ true → Vecs n σ w w'
@@ -117,7 +133,8 @@ module _ {n : ℕ} {σ : ℕ → Bool} where
   progress-m (live k t rtol atol h held Differenced c N D U F W J R) = absurd (true≢false D)
 
   -- ---- the sessions that the calls make
-  pub opened-m : (k : ℕ) (t rtol atol : Float) (held : History) {u u' f f' w w' : List Float} → n ≤ 16 → Placed (within n) σ u u' → Placed (within n) σ f f' → Placed (within (usedHistory held n)) σ w w'
+  pub opened-m : (k : ℕ) (t rtol atol : Float) (held : History) {u u' f f' w w' : List Float} → n ≤ 16 → Placed (within n) σ u u'
+      → Placed (within n) σ f f' → Placed (within (usedHistory held n)) σ w w'
       → Lives n σ (opened k n t u f rtol atol held w) (opened k n t u' f' rtol atol held w')
   unfolding opened
   opened-m k t rtol atol held N U F W = live k t rtol atol zero+ held None 0 N refl U F W (blank-m _ _ 256) (blank-m _ _ 320)

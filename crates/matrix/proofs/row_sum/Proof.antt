@@ -18,29 +18,29 @@ abbrev μ-loop : tie.MeasureT-loop
 row-start-requires : tie.Need-row-start-requires Inv-loop μ-loop
 row-start-requires c κs = omega arith
 
-mul-magnitude : tie.Need-mul-magnitude Inv-loop μ-loop
-mul-magnitude c = omega arith
+mul-abs : tie.Need-mul-abs Inv-loop μ-loop
+mul-abs c = omega arith
 
-shared-slice-read-magnitude : tie.Need-shared-slice-read-magnitude Inv-loop μ-loop
-shared-slice-read-magnitude c = omega arith
+shared-slice-read-abs : tie.Need-shared-slice-read-abs Inv-loop μ-loop
+shared-slice-read-abs c = omega arith
 
-magnitude-requires : tie.Need-magnitude-requires Inv-loop μ-loop
-magnitude-requires c κs = omega arith
+abs-requires : tie.Need-abs-requires Inv-loop μ-loop
+abs-requires c κs = omega arith
 
 loop-holds : tie.Need-loop-holds Inv-loop μ-loop
-loop-holds c = (omega arith, omega arith, sum-first _ _ (rw (add-zero, ← c .before .before .row-start .ensures .0) (c .magnitude .ensures)))
+loop-holds c = (omega arith, omega arith, sum-first _ _ (rw (add-zero, ← c .before .before .row-start .ensures .0) (c .abs .ensures)))
 
-add-magnitude : tie.Need-add-magnitude Inv-loop μ-loop
-add-magnitude c = omega arith
+add-abs : tie.Need-add-abs Inv-loop μ-loop
+add-abs c = omega arith
 
-mul-magnitude-2 : tie.Need-mul-magnitude-2 Inv-loop μ-loop
-mul-magnitude-2 c = omega arith
+mul-abs-2 : tie.Need-mul-abs-2 Inv-loop μ-loop
+mul-abs-2 c = omega arith
 
-shared-slice-read-magnitude-2 : tie.Need-shared-slice-read-magnitude-2 Inv-loop μ-loop
-shared-slice-read-magnitude-2 c = omega arith
+shared-slice-read-abs-2 : tie.Need-shared-slice-read-abs-2 Inv-loop μ-loop
+shared-slice-read-abs-2 c = omega arith
 
-magnitude-requires-2 : tie.Need-magnitude-requires-2 Inv-loop μ-loop
-magnitude-requires-2 c κs = omega arith
+abs-requires-2 : tie.Need-abs-requires-2 Inv-loop μ-loop
+abs-requires-2 c κs = omega arith
 
 add-column : tie.Need-add-column Inv-loop μ-loop
 add-column c = omega arith
@@ -49,7 +49,9 @@ loop-less : tie.Need-loop-less Inv-loop μ-loop
 loop-less c = omega arith
 
 loop-again : tie.Need-loop-again Inv-loop μ-loop
-loop-again c = (omega arith, omega arith, sum-step _ _ _ _ (c .before .before .before .loop .inv .2) (rw (← c .before .before .before .before .before .before .row-start .ensures .0) (c .magnitude2 .ensures)) (omega arith))
+loop-again c =
+    let start = c .before .before .before .before .before .before .row-start .ensures .0 in
+    (omega arith, omega arith, sum-step _ _ _ _ (c .before .before .before .loop .inv .2) (rw (← start) (c .abs2 .ensures)) (omega arith))
 
 returns : tie.Need-returns Inv-loop μ-loop
 unfolding rowSum
@@ -62,14 +64,14 @@ row-sum-spec =
     Inv-loop
     μ-loop
     row-start-requires
-    mul-magnitude
-    shared-slice-read-magnitude
-    magnitude-requires
+    mul-abs
+    shared-slice-read-abs
+    abs-requires
     loop-holds
-    add-magnitude
-    mul-magnitude-2
-    shared-slice-read-magnitude-2
-    magnitude-requires-2
+    add-abs
+    mul-abs-2
+    shared-slice-read-abs-2
+    abs-requires-2
     add-column
     loop-less
     loop-again
