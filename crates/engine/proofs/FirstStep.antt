@@ -9,10 +9,10 @@ use borrow.Author.Tests.{ne-eqb}
 use lib.IntN.{ℤ}
 use lib.Ieee.{Float, nan, inf, fin, isNan, lt, eq, le, div, ofBits, ofFields, odd, binary64, round, unlike, up, down}
 use Rattle.float.specs.Arith.{_⊘_, zero+, epsilon, most}
+use Rattle.float.proofs.Plus.{round-number}
+use Rattle.float.proofs.Order.{not-lt-le, le-self, le-number, most-number, zero-number, epsilon-number}
 use Rattle.engine.specs.Engine.{thousandth, hundredth, rate, estimate, clamp, firstStep}
 use Rattle.engine.specs.Claims.{Between, FirstStepBetween}
-use Rattle.engine.proofs.Norm.{round-number}
-use Rattle.engine.proofs.Order.{not-lt-le, le-self, le-number, most-number}
 
 -- ---- the estimate is no NaN
 -- a number above zero divided by a number
@@ -34,14 +34,6 @@ estimate-number scale h = go (eq scale zero+)
     go : (b : Bool) → isNan (cond b thousandth (hundredth ⊘ scale)) ≡ false
     go true = unfold isNan ofBits ofFields odd in refl
     go false = unfold ofBits ofFields odd in above-div _ _ scale h
-
-zero-number : isNan zero+ ≡ false
-unfolding isNan ofBits ofFields odd
-zero-number = refl
-
-epsilon-number : isNan epsilon ≡ false
-unfolding isNan ofBits ofFields odd
-epsilon-number = refl
 
 -- ---- a number held between two bounds lies between them
 -- the lower bound

@@ -1,4 +1,3 @@
 pub mod Small
 pub mod Norm
-pub mod Order
 pub mod FirstStep

@@ -1,3 +1,4 @@
+pub mod Signs
 pub mod Floats
 pub mod Sums
 pub mod Round
@@ -13,3 +14,5 @@ pub mod Nearest
 pub mod Cases
 pub mod Roots
 pub mod RootExamples
+pub mod Order
+pub mod Plus

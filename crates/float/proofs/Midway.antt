@@ -1,19 +1,20 @@
 -- Where q is the whole part of a number's root, to 53 digits, the remainder tells `nearestRoot`. And what `root` gives, by what number its argument is. Assumes nothing.
 use mathlib.Core.Path.{_≡_, refl, sym, ap, _∙_, subst}
 use Prim.Native.Nat.{ℕ, zero, suc, _+_, _-_, _*_, _/_, _^_, _≤_, _<_, compare, Ordering, Ordering·lt, Ordering·eq, Ordering·gt}
-use native.Mathlib.Nat.{le-trans, le-of-eq, le-of-lt, lt-of-lt-of-le, lt-of-le-of-lt, lt-of-not-le, lt-irrefl, mul-assoc, mul-right-comm, mul-pos, mul-le-mul-right, mul-lt-mul-of-pos-right, mul-div-cancel, zero-mul, pow-le-pow-left, div-eq-of-lt-le}
+use native.Mathlib.Nat.{le-trans, le-of-eq, le-of-lt, lt-of-lt-of-le, lt-of-le-of-lt, lt-irrefl, mul-assoc, mul-right-comm, mul-pos, mul-le-mul-right, mul-lt-mul-of-pos-right}
+use native.Mathlib.Nat.{mul-div-cancel, zero-mul, pow-le-pow-left, div-eq-of-lt-le}
 use native.Mathlib.Numerals.{add-one}
 use native.Mathlib.Omega.{arith}
 use mathlib.Core.Bool.{Bool, true, false, not, cond}
 use lib.IntN.{ℤ}
 use lib.Dec.{T, ltb, isLe, isEq, ltb→lt, nltb→le, le→leb, eqb→eq, leb→le, lit≤}
-use lib.Pow.{pow-add, pow-pos, pow-mono}
+use lib.Pow.{pow-add, pow-pos}
 use lib.Ieee.{Float, nan, inf, fin, Format, binary64, low, up, down, size, nearest, odd}
 use lib.Ieee.Digits.{size-lt, size-le}
 use lib.Ieee.Fits.{down-pos}
 use lib.Ieee.Exact.{HasValue}
 use Rattle.float.specs.Root.{square, floorRoot, nearestRoot, root}
-use Rattle.float.proofs.Square.{square-suc, square-odd, square-mul, floor-is, floor-div}
+use Rattle.float.proofs.Square.{square-suc, square-odd, square-mul, floor-is, floor-div, pow-lt-back}
 use Rattle.float.specs.Digits.{Rooted}
 
 -- ---- what `compare` says
@@ -34,9 +35,6 @@ compare-gt a b h = go (compare a b) (leb→le a b)
     go Ordering·gt l = refl
 
 -- ---- the digits that are kept, and how many are dropped
-pow-lt-back : (i p : ℕ) → 2 ^ i < 2 ^ p → i < p
-pow-lt-back i p h = lt-of-not-le (λ (g : p ≤ i). lt-irrefl (2 ^ i) (lt-of-lt-of-le h (pow-mono g)))
-
 both : (z k : ℕ) → z ≤ 53 + k → 52 + k < z → z - 53 ≡ k
 both z k a b = omega arith
 

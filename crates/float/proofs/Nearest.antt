@@ -2,7 +2,8 @@
 -- (a + c) / 2 is below it: where the square of a + c is below 4 * n. Assumes nothing.
 use mathlib.Core.Path.{_≡_, sym, ap, _∙_, subst}
 use Prim.Native.Nat.{ℕ, zero, suc, _+_, _-_, _*_, _/_, _%_, _^_, _≤_, _<_}
-use native.Mathlib.Nat.{zero-mul, zero-lt-suc, le-of-suc-le-suc, add-comm, le-refl, le-trans, le-of-eq, le-of-lt, le-antisymm, lt-of-lt-of-le, lt-of-le-of-lt, lt-of-not-le, lt-trans, lt-irrefl, add-mul, add-le-add, mul-add, mul-comm, mul-assoc, mul-le-mul-right, mul-pos, mul-div-cancel, mod-lt, lt-of-mul-lt-mul-right, sub-add-cancel}
+use native.Mathlib.Nat.{zero-mul, zero-lt-suc, le-of-suc-le-suc, add-comm, le-refl, le-trans, le-of-eq, le-of-lt, le-antisymm, lt-of-lt-of-le, lt-of-le-of-lt, lt-of-not-le, lt-trans}
+use native.Mathlib.Nat.{lt-irrefl, add-mul, add-le-add, mul-add, mul-comm, mul-assoc, mul-le-mul-right, mul-pos, mul-div-cancel, mod-lt, lt-of-mul-lt-mul-right, sub-add-cancel}
 use native.Mathlib.Omega.{arith}
 use mathlib.Core.Bool.{Bool, true, false, not, cond}
 use lib.Dec.{T, leb, ltb, eqb, ltb→lt, lt→ltb, nltb→le, lit≤}
@@ -14,7 +15,7 @@ use lib.Ieee.Exact.{HasValue, odd-sign}
 use lib.Ieee.Scale.{finite}
 use lib.Ieee.Positive.{positive}
 use Rattle.float.specs.Root.{square, inUnits}
-use Rattle.float.proofs.Square.{square-mono}
+use Rattle.float.proofs.Square.{square-mono, pow-lt-back}
 use Rattle.float.proofs.Bits.{ofBits-is}
 use Rattle.float.proofs.Strict.{Strict}
 
@@ -59,9 +60,6 @@ grid y h f =
     (fields-grid (leb (2 ^ 63) b) (b % 2 ^ 63 / 2 ^ 52) (b % 2 ^ 52) (mod-lt b (lit≤ tt)) (subst (λ (v : Float). T (finite v)) e f))
 
 -- ---- from 2 ^ 52 * 2 ^ k up the doubles are multiples of 2 ^ k
-pow-lt-back : (i p : ℕ) → 2 ^ i < 2 ^ p → i < p
-pow-lt-back i p h = lt-of-not-le (λ (g : p ≤ i). lt-irrefl (2 ^ i) (lt-of-lt-of-le h (pow-mono g)))
-
 drop-53 : (k j : ℕ) → 52 + k < 53 + j → k ≤ j
 drop-53 k j h = omega arith
 
@@ -183,4 +181,5 @@ nearest-only n r s h k =
   where
     no-less : (r s : Float) → NearestTo n r → NearestTo n s → inUnits s ≤ inUnits r
     no-less r s h k = le-of-suc-le-suc (lt-of-not-le (λ (g : inUnits r < inUnits s).
-        lt-irrefl (4 * n) (lt-trans (h .higher s (k .held) (is-finite s (k .plus)) g) (subst (λ (x : ℕ). square x < 4 * n) (add-comm (inUnits r) (inUnits s)) (k .lower r (h .held) (is-finite r (h .plus)) g)))))
+        lt-irrefl (4 * n) (lt-trans (h .higher s (k .held) (is-finite s (k .plus)) g)
+        (subst (λ (x : ℕ). square x < 4 * n) (add-comm (inUnits r) (inUnits s)) (k .lower r (h .held) (is-finite r (h .plus)) g)))))

@@ -2,10 +2,16 @@
 use mathlib.Core.Path.{_≡_, ap, _∙_, subst}
 use Prim.Native.Nat.{ℕ, zero, suc, _+_, _*_, _/_, _^_, _≤_, _<_}
 use native.Mathlib.Nat.{le-of-suc-le-suc, lt-of-le-of-lt, lt-of-not-le, not-le-of-lt, zero-lt-suc, suc-mul, mul-suc, mul-le-mul, mul-mul-mul-comm, pow-suc, div-lt-iff-lt-mul}
+use native.Mathlib.Nat.{lt-of-lt-of-le, lt-irrefl}
 use native.Mathlib.Omega.{arith}
 use mathlib.Core.Bool.{Bool, true, false, not, cond}
+use lib.Pow.{pow-mono}
 use lib.Dec.{T, leb, leb→le, nleb→lt}
 use Rattle.float.specs.Root.{square, floorRoot}
+
+-- powers of two are in the order of their exponents
+pub pow-lt-back : (i p : ℕ) → 2 ^ i < 2 ^ p → i < p
+pow-lt-back i p h = lt-of-not-le (λ (g : p ≤ i). lt-irrefl (2 ^ i) (lt-of-lt-of-le h (pow-mono g)))
 
 pub square-suc : (a : ℕ) → square (suc a) ≡ square a + 2 * a + 1
 square-suc a = omega (arith, suc-mul a (suc a), mul-suc a a)

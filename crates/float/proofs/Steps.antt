@@ -2,16 +2,17 @@
 use mathlib.Core.Path.{_≡_, sym, ap, _∙_, subst}
 use mathlib.Core.Bool.{Bool, cond}
 use Prim.Native.Nat.{ℕ, suc, _+_, _-_, _*_, _/_, _%_, _^_, _≤_, _<_}
-use native.Mathlib.Nat.{le-trans, le-of-eq, le-of-suc-le-suc, lt-of-lt-of-le, lt-of-le-of-lt, lt-of-not-le, lt-irrefl, add-sub-of-le, mul-comm, mul-assoc, mul-le-mul-right, mul-le-mul-left, mul-lt-mul-of-pos-right, pow-le-pow-right, mod-eq-of-lt, div-eq-of-lt, div-one, div-le-self}
+use native.Mathlib.Nat.{le-trans, le-of-eq, le-of-suc-le-suc, lt-of-lt-of-le, lt-of-le-of-lt, add-sub-of-le, mul-comm, mul-assoc, mul-le-mul-right, mul-le-mul-left}
+use native.Mathlib.Nat.{mul-lt-mul-of-pos-right, pow-le-pow-right, mod-eq-of-lt, div-eq-of-lt, div-one, div-le-self}
 use native.Mathlib.Omega.{arith}
 use lib.Dec.{ltb, lt→ltb, lit≤}
 use lib.Arith.{le→nltb}
 use lib.Count.{leadingZeros, leading-top}
-use lib.Pow.{pow-add, pow-mono, shl-lt, shr-shr}
+use lib.Pow.{pow-add, shl-lt, shr-shr}
 use lib.Ieee.Bits.{is-true, is-false}
 use Rattle.float.specs.Root.{square}
 use Rattle.float.specs.Digits.{Rooted, Split, Halved, unitsOf, squaresOf}
-use Rattle.float.proofs.Square.{square-suc, square-back}
+use Rattle.float.proofs.Square.{square-suc, square-back, pow-lt-back}
 
 -- ---- two more digits of v
 pub two-more : (v i : ℕ) → v / 2 ^ (2 * i) ≡ 4 * (v / 2 ^ (2 * (i + 1))) + v / 2 ^ (2 * i) % 4
@@ -97,9 +98,6 @@ halve-odd d p e a b l m = record {
 }
 
 -- ---- a subnormal's leading one, shifted to bit 52
-pow-lt-back : (i p : ℕ) → 2 ^ i < 2 ^ p → i < p
-pow-lt-back i p h = lt-of-not-le (λ (g : p ≤ i). lt-irrefl (2 ^ i) (lt-of-lt-of-le h (pow-mono g)))
-
 pub shift-bounds : (b : ℕ) → 0 < b → b < 2 ^ 52 → (12 ≤ leadingZeros 64 b) × (leadingZeros 64 b ≤ 63)
 shift-bounds b p h =
     let t = leading-top 64 b p (lt-of-lt-of-le h (lit≤ tt)) in

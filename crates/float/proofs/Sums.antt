@@ -1,8 +1,9 @@
 -- The three steps of a loop that sums from its first item, and of one that keeps the largest. Assumes nothing.
-use Prim.Native.Nat.{ℕ, zero, suc, _+_, _≤_}
+use Prim.Native.Nat.{ℕ, zero, suc, _+_, _≤_, _<_}
 use mathlib.Core.Path.{_≡_, refl}
 use native.Mathlib.Numerals.{add-one}
 use native.Mathlib.Nat.{not-suc-le-zero}
+use native.Mathlib.Omega.{arith}
 use lib.Ieee.{Float}
 use Rattle.float.specs.Arith.{_⊕_, larger, sumOf, most}
 
@@ -28,3 +29,15 @@ most-step f o k x y z e g h = rw (add-one, h, e, g)
 
 pub most-end : (f : ℕ → Float) (o : Float) (k n : ℕ) (x : Float) → x ≡ most k f o → k ≡ n → x ≡ most n f o
 most-end f o k n x e h = rw (← h) e
+
+-- sums, and largest items, of the same items
+pub sum-ext : (n : ℕ) (f g : ℕ → Float) → ((k : ℕ) → k < n → f k ≡ g k) → sumOf n f ≡ sumOf n g
+unfolding sumOf
+sum-ext zero f g p = refl
+sum-ext (suc zero) f g p = p 0 (omega arith)
+sum-ext (suc (suc n)) f g p = rw (sum-ext (suc n) f g (λ k h. p k (omega arith)), p (suc n) (omega arith))
+
+pub most-ext : (n : ℕ) (f g : ℕ → Float) (x : Float) → ((k : ℕ) → k < n → f k ≡ g k) → most n f x ≡ most n g x
+unfolding most
+most-ext zero f g x p = refl
+most-ext (suc n) f g x p = rw (most-ext n f g x (λ k h. p k (omega arith)), p n (omega arith))

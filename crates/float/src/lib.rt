@@ -27,15 +27,12 @@ pub fn plus_zero(x: f64) -> bool
     }
 }
 
-// The absolute value; that of a zero is +0.0.
+// The absolute value; that of a zero is +0.0. Two selects and no branch: signs can't be foretold.
 pub fn abs(x: f64) -> f64
     ensures { λ r. ⌜ r ≡ abs x ⌝ }
 {
-    if x < 0.0 {
-        -x
-    } else {
-        if x == 0.0 { 0.0 } else { x }
-    }
+    let size = if x < 0.0 { -x } else { x };
+    if size == 0.0 { 0.0 } else { size }
 }
 
 // The larger of two; a NaN is passed over, as f64::max does.

@@ -1,3 +1,4 @@
+pub mod Bools
 pub mod Loops
 pub mod Stores
 pub mod Places

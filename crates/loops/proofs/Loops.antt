@@ -1,15 +1,17 @@
 -- The three steps of a loop's invariant, for each shape of loop: no turn yet, one turn more, and the end. Assumes nothing.
-use Prim.Native.Nat.{ℕ, zero, suc, _+_, _≤_, _<_}
+use Prim.Native.Nat.{ℕ, zero, suc, _+_, _-_, _≤_, _<_}
 use mathlib.Core.Path.{_≡_, refl, sym, ap, _∙_}
 use mathlib.Core.Bool.{Bool, true, _&&_}
 use mathlib.Core.List.{List, [], _∷_, _++_, append-nil}
 use native.Mathlib.Numerals.{add-one}
 use native.Mathlib.Nat.{add-zero, add-suc, suc-add, zero-add, not-suc-le-zero}
+use native.Mathlib.Decide.{ℕ-discrete}
 use native.Mathlib.Omega.{arith}
 use lib.Ieee.{Float, nan}
-use lib.ListN.{getD, length, set, drop, length-append, length-drop}
-use lib.Seq.{set-at, append-snoc, drop-cons, drop-length}
+use lib.ListN.{getD, length, set, drop, length-append, length-drop, List·getD-eq-default}
+use lib.Seq.{set-at, append-snoc, drop-cons, drop-length, getD-append-add}
 use Rattle.loops.specs.Loop.{iter, every, from, tab, fill, stores, _!_}
+use Rattle.loops.proofs.Bools.{both-true}
 
 -- ---- every
 pub every-none : (f : ℕ → Bool) → true ≡ every 0 f
@@ -22,6 +24,37 @@ every-step f i b r e h = rw (add-one, e, h)
 
 pub every-end : (f : ℕ → Bool) (i n : ℕ) (b : Bool) → b ≡ every i f → i ≡ n → b ≡ every n f
 every-end f i n b e h = rw (← h) e
+
+-- what holds of all holds of each
+pub every-at : (n : ℕ) (f : ℕ → Bool) → every n f ≡ true → (i : ℕ) → i < n → f i ≡ true
+unfolding every
+every-at zero f h i l = absurd (not-suc-le-zero l)
+every-at (suc n) f h i l = go (ℕ-discrete i n) (λ k. every-at n f (both .0) i k)
+  where
+    both : (every n f ≡ true) × (f n ≡ true)
+    both = both-true (every n f) (f n) h
+
+    go : Dec (i ≡ n) → (i < n → f i ≡ true) → f i ≡ true
+    go (yes e) ih = rw e (both .1)
+    go (no ne) ih = ih (omega arith)
+
+-- the same tests hold together
+pub every-ext : (n : ℕ) (f g : ℕ → Bool) → ((k : ℕ) → k < n → f k ≡ g k) → every n f ≡ every n g
+unfolding every
+every-ext zero f g p = refl
+every-ext (suc n) f g p = rw (every-ext n f g (λ k h. p k (omega arith)), p n (omega arith))
+
+-- ---- lists
+-- a place that is not there reads as a NaN
+pub past-end : (x : List Float) (p : ℕ) → length x ≤ p → x ! p ≡ nan
+past-end x p h = List·getD-eq-default x nan h
+
+-- past two lists of one length stands what follows them
+pub append-past : (x y z : List Float) (i : ℕ) → length x ≡ length y → length x ≤ i → (x ++ z) ! i ≡ (y ++ z) ! i
+append-past x y z i e h =
+    let a : i ≡ length x + (i - length x) = omega arith in
+    let b : length y + (i - length x) ≡ i = omega arith in
+    rw a (getD-append-add x z (i - length x) nan ∙ sym (getD-append-add y z (i - length x) nan) ∙ rw (b, ← a))
 
 -- ---- tab
 length-from : {A : Type 0} (n i : ℕ) (f : ℕ → A) → length (from n i f) ≡ n

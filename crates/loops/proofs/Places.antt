@@ -1,7 +1,8 @@
 -- Rows and columns of a matrix that is kept row by row. Assumes nothing.
 use Prim.Native.Nat.{ℕ, zero, suc, _+_, _*_, _/_, _%_, _<_, _≤_}
 use mathlib.Core.Path.{_≡_, _∙_}
-use native.Mathlib.Nat.{not-suc-le-zero, zero-mul, div-lt-iff-lt-mul, mod-lt, add-zero, suc-mul, mul-le-mul-right, mul-add-div-right, mul-add-mod-self-right, div-eq-of-lt, mod-eq-of-lt}
+use native.Mathlib.Nat.{not-suc-le-zero, zero-mul, div-lt-iff-lt-mul, mod-lt, add-zero, suc-mul, mul-le-mul, mul-le-mul-right, mul-comm, mul-add-div-right, mul-add-mod-self-right}
+use native.Mathlib.Nat.{div-eq-of-lt, mod-eq-of-lt}
 use native.Mathlib.Omega.{arith}
 use mathlib.Core.List.{List}
 use lib.Ieee.{Float}
@@ -13,11 +14,22 @@ use Rattle.loops.proofs.Loops.{length-tab, tab-at, fill-all}
 pub row-fits : (i n : ℕ) → i < n → i * n + n ≤ n * n
 row-fits i n h = rw suc-mul at (mul-le-mul-right n h)
 
+-- and the matrix within that of any larger size
+pub row-small : (i n k : ℕ) → i < n → n ≤ k → (i * n + n ≤ n * n) × (n * n ≤ k * k)
+row-small i n k h l = (row-fits i n h, mul-le-mul l l)
+
 pub place-row : (i j n : ℕ) → j < n → (i * n + j) / n ≡ i
 place-row i j n h = let z : 0 < n = omega arith in rw (mul-add-div-right, div-eq-of-lt h, add-zero)
 
 pub place-column : (i j n : ℕ) → j < n → (i * n + j) % n ≡ j
 place-column i j n h = rw (mul-add-mod-self-right, mod-eq-of-lt h)
+
+-- the same where the width stands first
+pub slot-row : (w i j : ℕ) → j < w → (w * i + j) / w ≡ i
+slot-row w i j h = rw (mul-comm w i) (place-row i j w h)
+
+pub slot-column : (w i j : ℕ) → j < w → (w * i + j) % w ≡ j
+slot-column w i j h = rw (mul-comm w i) (place-column i j w h)
 
 -- a place's row and column
 some-row : {p : ℕ} (n : ℕ) → p < n * n → 0 < n

@@ -1,14 +1,15 @@
 -- A list is known by its length and what stands at each place: so is a run of stores, and two runs are one. Assumes nothing.
-use Prim.Native.Nat.{ℕ, zero, suc, _+_, _-_, _<_, _≤_}
+use Prim.Native.Nat.{ℕ, zero, suc, _+_, _-_, _*_, _<_, _≤_}
 use mathlib.Core.Path.{_≡_, refl, sym, _∙_}
 use mathlib.Core.Logic.{_≢_}
 use mathlib.Core.List.{List}
-use native.Mathlib.Nat.{add-suc, add-zero, zero-add, not-suc-le-zero}
+use native.Mathlib.Nat.{add-suc, add-zero, zero-add, zero-mul, suc-mul, not-suc-le-zero}
+use native.Mathlib.Numerals.{add-one}
 use native.Mathlib.Decide.{ℕ-discrete, decLt}
 use native.Mathlib.Omega.{arith}
 use lib.Ieee.{Float, nan}
 use lib.ListN.{length, set, length-set}
-use lib.Seq.{getD-set-same, getD-set-other, ext-getD}
+use lib.Seq.{getD-set-same, getD-set-other, set-getD, ext-getD}
 use Rattle.loops.specs.Loop.{iter, tab, stores, _!_}
 use Rattle.loops.proofs.Loops.{length-tab, tab-at}
 
@@ -40,9 +41,9 @@ stores-out g b (suc n) o p h =
     let ne : p ≢ b + n = h n (omega arith) in
     rw (stores-suc, getD-set-other) (stores-out g b n o p (λ j q. h j (omega arith)))
 
-pub stores-in : (g : ℕ → Float → Float) (b n : ℕ) (o : List Float) (j : ℕ) → j < n → b + n ≤ length o → stores g b n o ! (b + j) ≡ g j (o ! (b + j))
+pub stores-in : (g : ℕ → Float → Float) (b n : ℕ) (o : List Float) (j : ℕ) → j < n → b + j < length o → stores g b n o ! (b + j) ≡ g j (o ! (b + j))
 stores-in g b zero o j h r = absurd (not-suc-le-zero h)
-stores-in g b (suc n) o j h r = go (ℕ-discrete j n) (λ q. stores-in g b n o j q (omega arith))
+stores-in g b (suc n) o j h r = go (ℕ-discrete j n) (λ q. stores-in g b n o j q r)
   where
     go : Dec (j ≡ n) → (j < n → stores g b n o ! (b + j) ≡ g j (o ! (b + j))) → stores g b (suc n) o ! (b + j) ≡ g j (o ! (b + j))
     go (yes e) ih =
@@ -61,15 +62,16 @@ pub stores-stores : (f g : ℕ → Float → Float) (b n : ℕ) (o : List Float)
 stores-stores f g b n o r = ext-getD nan _ _ (rw (length-stores, length-stores, length-stores)) (λ p q. go p (decLt p b) (decLt p (b + n)))
   where
     go : (p : ℕ) → Dec (p < b) → Dec (p < b + n) → stores g b n (stores f b n o) ! p ≡ stores (λ j x. g j (f j x)) b n o ! p
-    go p (yes l) d =
+    go p (yes a) d =
         let away : (j : ℕ) → j < n → p ≢ b + j = λ j q. omega arith in
         rw (stores-out, stores-out, stores-out)
-    go p (no l) (yes m) =
+    go p (no a) (yes m) =
         let e : p ≡ b + (p - b) = omega arith in
         let q : p - b < n = omega arith in
-        let r' : b + n ≤ length (stores f b n o) = rw length-stores r in
+        let l : b + (p - b) < length o = omega arith in
+        let l' : b + (p - b) < length (stores f b n o) = rw length-stores l in
         rw (e, stores-in, stores-in, stores-in)
-    go p (no l) (no m) =
+    go p (no a) (no m) =
         let away : (j : ℕ) → j < n → p ≢ b + j = λ j q. omega arith in
         rw (stores-out, stores-out, stores-out)
 
@@ -78,3 +80,28 @@ pub stores-join : (f g : ℕ → Float → Float) (b n : ℕ) (o : List Float) �
 stores-join f g b zero o h = rw (stores-zero, add-zero)
 stores-join f g b (suc n) o h =
     rw (stores-suc, add-suc, stores-suc, zero-add, stores-join f g b n o (λ j q x. h j (omega arith) x), h n (omega arith))
+
+-- stores that change nothing
+pub stores-same : (g : ℕ → Float → Float) (b n : ℕ) (o : List Float) → ((j : ℕ) → j < n → (x : Float) → g j x ≡ x) → stores g b n o ≡ o
+stores-same g b zero o h = stores-zero g b o
+stores-same g b (suc n) o h = rw (stores-suc, h n (omega arith), stores-same g b n o (λ j q x. h j (omega arith) x), set-getD)
+
+-- the next place is still as it was
+pub ahead : (g : ℕ → Float → Float) (k : ℕ) (o p : List Float) → p ≡ stores g 0 k o → p ! k ≡ o ! k
+ahead g k o p e = rw e (stores-out g 0 k o k (λ j q. omega arith))
+
+-- a loop over all of a list
+pub run-all : (g : ℕ → Float → Float) (o p : List Float) (k : ℕ) → p ≡ stores g 0 k o → k ≡ length o → p ≡ tab (length o) (λ q. g q (o ! q))
+run-all g o p k e h = rw h at e ∙ stores-all g (length o) o refl
+
+-- a loop over all of a list that writes without looking
+pub run-to : (f : ℕ → Float) (o p : List Float) (k n : ℕ) → p ≡ stores (λ q x. f q) 0 k o → k ≡ n → length o ≡ n → p ≡ tab n f
+run-to f o p k n e h l = rw h at e ∙ stores-all (λ q x. f q) n o l
+
+-- stores over the first i rows of n places, and over one row more
+pub rows-none : (f : ℕ → Float → Float) (n : ℕ) (z : List Float) → z ≡ stores f 0 (0 * n) z
+rows-none f n z = rw zero-mul (sym (stores-zero f 0 z))
+
+pub rows-step : (f g : ℕ → Float → Float) (n i : ℕ) (z p q : List Float) → ((j : ℕ) → j < n → (x : Float) → g j x ≡ f (i * n + j) x)
+    → p ≡ stores f 0 (i * n) z → q ≡ stores g (i * n) n p → q ≡ stores f 0 ((i + 1) * n) z
+rows-step f g n i z p q h e d = rw (add-one, suc-mul) (rw e at d ∙ stores-join f g (i * n) n z h)

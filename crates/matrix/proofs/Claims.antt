@@ -3,20 +3,22 @@ use mathlib.Core.Path.{_≡_, refl, sym, ap, _∙_, subst}
 use mathlib.Core.List.{List}
 use mathlib.Core.Logic.{inl, inr}
 use Prim.Native.Nat.{ℕ, zero, suc, _+_, _*_, _^_, _≤_, _<_, zero-le}
-use native.Mathlib.Nat.{le-trans, le-refl, le-suc, eq-or-lt-of-le, not-le-of-lt, zero-lt-suc, mul-comm, mul-assoc, mul-left-comm, mul-right-comm, mul-le-mul-right, le-of-suc-le-suc, le-of-mul-le-mul-right, le-div-iff-mul-le, div-mul-le-self}
-use mathlib.Core.Bool.{true, false, _&&_, true≢false}
+use native.Mathlib.Nat.{le-trans, le-refl, le-suc, eq-or-lt-of-le, not-le-of-lt, zero-lt-suc, mul-comm, mul-assoc, mul-left-comm, mul-right-comm, mul-le-mul-right, le-of-suc-le-suc}
+use native.Mathlib.Nat.{le-of-mul-le-mul-right, le-div-iff-mul-le, div-mul-le-self}
+use mathlib.Core.Bool.{true, false, _&&_, true≢false, false≢true}
 use lib.Dec.{T, leb→le}
 use lib.Arith.{digits-lt}
 use lib.Count.{trailingZeros}
 use lib.Ieee.{Float, nan, inf, fin, binary64, up, down, fits, add, mul, div, le, lt, eq, ofInt, round, size, units, odd, span, climb, sum, isNan, ofBits, ofFields}
 use lib.Ieee.Fits.{down-pos}
 use lib.Ieee.Scale
+use Rattle.loops.proofs.Bools.{both-true}
+use Rattle.loops.proofs.Loops.{every-at}
 use Rattle.loops.specs.Loop.{iter, every, from, tab, mat}
 use Rattle.float.specs.Arith.{_⊘_, zero+, limit, finite, abs, larger, sumOf, most}
 use Rattle.float.proofs.Total.{total}
 use Rattle.matrix.specs.Matrix.{at, identity, matMul, divAll, addAll, maxAbs, rowSum, norm, admitted, enough, least, squarings, power, scaled, nextTerm, small, series, taylor, exponential}
 use Rattle.matrix.specs.Claims.{Admitted, StopsAt15, LimitUnmet, Reaches15, LeastScale, Scales, TopRow}
-use Rattle.matrix.proofs.Bools.{false≢true, and-left, every-at}
 use Rattle.matrix.proofs.Powers.{norm-limit, squarings-least, squarings-enough, squarings-room}
 use Rattle.matrix.proofs.RowSums.{On64, mag64, unit64}
 use Rattle.matrix.proofs.Terms.{Rows, quotient, total-ap}
@@ -41,13 +43,13 @@ enough→units (fin false m e) s p h = twice (m * up e) (down e) (mag64 (fin fal
 -- ---- the rows that are admitted
 same-finite : (x : Float) → finite x ≡ true → T (lib.Ieee.Scale.finite x)
 unfolding finite
-same-finite nan h = false≢true h
-same-finite (inf s) h = false≢true h
+same-finite nan h = absurd (false≢true h)
+same-finite (inf s) h = absurd (false≢true h)
 same-finite (fin s m e) h = tt
 
 row-finite : (m : List Float) (n i : ℕ) → admitted m n ≡ true → i < n → T (lib.Ieee.Scale.finite (rowSum m n i))
 unfolding admitted
-row-finite m n i h l = same-finite (rowSum m n i) (and-left (finite (rowSum m n i)) (le (rowSum m n i) limit) (every-at n (λ i. finite (rowSum m n i) && le (rowSum m n i) limit) h i l))
+row-finite m n i h l = same-finite (rowSum m n i) (both-true (finite (rowSum m n i)) (le (rowSum m n i) limit) (every-at n (λ i. finite (rowSum m n i) && le (rowSum m n i) limit) h i l) .0)
 
 most-ge : (f : ℕ → Float) (k : ℕ) → ((j : ℕ) → j < k → Pos64 (f j)) → Pos64 (most k f zero+) × ((j : ℕ) → j < k → mag64 (f j) ≤ mag64 (most k f zero+))
 unfolding most
@@ -115,7 +117,8 @@ least-scale m n ok = (squarings-room (norm m n), squarings-enough (norm m n) (no
 
 -- ---- by computing
 pub reaches-15 : Reaches15
-unfolding exponential taylor series nextTerm small identity matMul divAll addAll maxAbs scaled squarings least enough norm rowSum mat tab from iter sumOf most abs larger isNan add mul div le lt eq ofInt round size units odd span climb trailingZeros sum ofBits ofFields
+unfolding exponential taylor series nextTerm small identity matMul divAll addAll maxAbs scaled squarings least enough norm rowSum mat tab from iter sumOf most abs larger isNan add mul div le lt eq
+    ofInt round size units odd span climb trailingZeros sum ofBits ofFields
 reaches-15 = refl
 
 pub scales : Scales

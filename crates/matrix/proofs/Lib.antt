@@ -1,8 +1,6 @@
-pub mod Bools
 pub mod Vectors
 pub mod Runs
 pub mod Products
-pub mod Sizes
 pub mod Powers
 pub mod Series
 pub mod RowSums

@@ -1,7 +1,7 @@
 -- Powers of two as doubles, and the least one that is enough. Assumes nothing.
 use Prim.Native.Nat.{ℕ, zero, suc, _+_, _*_, _^_, _<_, _≤_}
 use mathlib.Core.Path.{_≡_, refl, sym, ap, _∙_}
-use mathlib.Core.Bool.{Bool, true, false, not, _&&_, _||_, cond}
+use mathlib.Core.Bool.{Bool, true, false, not, _&&_, cond}
 use mathlib.Core.List.{List}
 use native.Mathlib.Nat.{pow-suc, add-suc, suc-add, mul-right-comm, add-zero}
 use native.Mathlib.Numerals.{add-one}
@@ -12,12 +12,13 @@ use lib.Dec.{ltb, leb}
 use lib.IntN.{negsuc}
 use lib.Ieee.{Float, nan, inf, fin, binary64, lt, le, eq, isNan, mul, round, size, units, odd, span, climb, ofBits, ofFields, up, down}
 use lib.Count.{trailingZeros}
-use borrow.Author.Tests.{not-true, not-false, ltb-true, lt-ltb, le-ltb, le-leb, lt-leb, eqb-true}
+use borrow.Author.Tests.{not-true, not-false, lt-ltb, le-ltb, le-leb, lt-leb}
+use Rattle.loops.proofs.Bools.{both-true}
 use Rattle.loops.specs.Loop.{every, from, tab, _!_}
 use Rattle.loops.proofs.Loops.{tab-at}
 use Rattle.float.specs.Arith.{_⊗_, two, limit, finite, larger, zero+, most}
+use Rattle.float.proofs.Order.{lt-not-le}
 use Rattle.matrix.specs.Matrix.{enough, least, squarings, power, norm, admitted, rowSum}
-use Rattle.matrix.proofs.Bools.{false≢true, and-left, and-right}
 
 -- half of 2 ^ s
 unfoldable pub halfOf : ℕ → Float
@@ -75,21 +76,6 @@ half-limit : halfOf 32 ≡ limit
 unfolding halfOf ofBits ofFields odd trailingZeros
 half-limit = refl
 
-or-case : {P : Type 0} (a b : Bool) → (a || b) ≡ true → (a ≡ true → P) → (b ≡ true → P) → P
-or-case true b h f g = f refl
-or-case false b h f g = g h
-
-not-above : (x : Float) → lt limit x ≡ true → le x limit ≡ true → ⊥
-unfolding lt le eq ofBits ofFields odd trailingZeros
-not-above nan h k = false≢true h
-not-above (inf true) h k = false≢true h
-not-above (inf false) h k = false≢true k
-not-above (fin true m e) h k = false≢true h
-not-above (fin false m e) h k =
-    or-case _ _ k
-    (λ q. omega (arith, ltb-true (m * up e * 1) (1 * 2 ^ 31 * down e) q, ltb-true (1 * 2 ^ 31 * down e) (m * up e * 1) h))
-    (λ q. omega (arith, eqb-true (m * up e * 1) (1 * 2 ^ 31 * down e) (and-left _ _ q), ltb-true (1 * 2 ^ 31 * down e) (m * up e * 1) h))
-
 -- a norm that is not above 2 ^ 31 takes at most 32
 pub short-room : (x h : Float) (s : ℕ) → le x limit ≡ true → s ≤ 32 → h ≡ halfOf s → lt h x ≡ true → s < 32
 short-room x h s b k e l = go (decLt s 32)
@@ -98,7 +84,7 @@ short-room x h s b k e l = go (decLt s 32)
     go (yes q) = q
     go (no n) =
         let t : s ≡ 32 = omega arith in
-        absurd (not-above x (rw (e, t, half-limit) at l) b)
+        absurd (lt-not-le limit x (rw (e, t, half-limit) at l) b)
 
 least-is : (d s r : ℕ) (p : ℕ → Bool) → s ≤ r → r ≤ s + d → ((t : ℕ) → t < r → p t ≡ false) → p r ≡ true → least d s p ≡ r
 unfolding least
@@ -153,7 +139,7 @@ squarings-enough x h = least-passes 32 0 (enough x) (go (enough x 32) refl)
   where
     go : (b : Bool) → enough x 32 ≡ b → enough x 32 ≡ true
     go true e = e
-    go false e = absurd (not-above x (rw (half-limit, e) at (test 32 x)) h)
+    go false e = absurd (lt-not-le limit x (rw (half-limit, e) at (test 32 x)) h)
 
 least-room : (d s : ℕ) (p : ℕ → Bool) → least d s p ≤ s + d
 unfolding least
@@ -187,8 +173,8 @@ limit-most : (f : ℕ → Float) (n : ℕ) → every n (λ i. finite (f i) && le
 unfolding every most
 limit-most f zero h = limit-zero
 limit-most f (suc k) h =
-    let r : (finite (f k) && le (f k) limit) ≡ true = and-right (every k (λ i. finite (f i) && le (f i) limit)) (finite (f k) && le (f k) limit) h in
-    limit-larger (most k f zero+) (f k) (limit-most f k (and-left (every k (λ i. finite (f i) && le (f i) limit)) (finite (f k) && le (f k) limit) h)) (and-right (finite (f k)) (le (f k) limit) r)
+    let all = both-true (every k (λ i. finite (f i) && le (f i) limit)) (finite (f k) && le (f k) limit) h in
+    limit-larger (most k f zero+) (f k) (limit-most f k (all .0)) (both-true (finite (f k)) (le (f k) limit) (all .1) .1)
 
 pub norm-limit : (m : List Float) (n : ℕ) → admitted m n ≡ true → le (norm m n) limit ≡ true
 unfolding admitted norm

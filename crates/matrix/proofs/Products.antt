@@ -13,12 +13,11 @@ use lib.Ieee.{Float}
 use lib.ListN.{length, set}
 use lib.Seq.{set-getD}
 use Rattle.loops.specs.Loop.{iter, mat, stores, _!_}
-use Rattle.loops.proofs.Stores.{stores-suc, stores-all, stores-join, stores-stores}
+use Rattle.loops.proofs.Stores.{stores-suc, stores-all, stores-join, stores-stores, stores-same, rows-step}
 use Rattle.loops.proofs.Places.{place-row, place-column}
 use Rattle.float.specs.Arith.{_⊕_, _⊗_, zero+, one}
 use Rattle.matrix.specs.Matrix.{at, matMul, identity, squared}
 use Rattle.matrix.specs.Calls.{products, Started}
-use Rattle.matrix.proofs.Runs.{rows-step, stores-same}
 
 -- ---- one row of a product
 pub first-one : (l r : List Float) (n i row : ℕ) (o q : List Float) → row ≡ i * n → q ≡ stores (λ j x. zero+ ⊕ l ! row ⊗ r ! j) row n o → q ≡ stores (λ j x. products 1 l r n i j) (i * n) n o

@@ -2,7 +2,8 @@
 use mathlib.Core.Path.{_≡_, refl, sym, ap, _∙_, subst}
 use mathlib.Core.Logic.{inl, inr}
 use Prim.Native.Nat.{ℕ, zero, suc, _+_, _-_, _*_, _/_, _%_, _^_, _≤_, _<_}
-use native.Mathlib.Nat.{le-trans, le-refl, le-of-eq, le-suc, lt-of-not-le, eq-or-lt-of-le, not-le-of-lt, zero-lt-suc, zero-mul, add-mul, mul-one, mul-comm, mul-assoc, mul-left-comm, mul-right-comm, mul-le-mul-right, mul-le-mul-left, mul-pos, le-of-mul-le-mul-right, le-of-suc-le-suc}
+use native.Mathlib.Nat.{le-trans, le-refl, le-of-eq, le-suc, lt-of-not-le, eq-or-lt-of-le, not-le-of-lt, zero-lt-suc, zero-mul, add-mul, mul-one, mul-comm, mul-assoc, mul-left-comm}
+use native.Mathlib.Nat.{mul-right-comm, mul-le-mul-right, mul-le-mul-left, mul-pos, le-of-mul-le-mul-right, le-of-suc-le-suc, one-mul}
 use native.Mathlib.Omega.{arith}
 use mathlib.Core.Bool.{Bool, true, false, cond, _&&_, Bool·beq, true≢false}
 use lib.Dec.{T, leb, ltb, eqb, leb→le}
@@ -27,7 +28,8 @@ expo : (k l : ℕ) → 2 ^ k ≤ 2 ^ l → k ≤ l
 expo k l h = le-of-suc-le-suc (lt-of-not-le (λ (g : suc l ≤ k). not-le-of-lt (pow-lt g) h))
 
 neg-exp : (m k l : ℕ) → suc k ≤ l → m * 1 * 2 ^ l ≡ m * 2 ^ (l - suc k) * 2 ^ suc k
-neg-exp m k l h = ap (λ (z : ℕ). z * 2 ^ l) (mul-one m) ∙ ap (λ (z : ℕ). m * z) (ap (λ (z : ℕ). 2 ^ z) (sym (back l (suc k) h)) ∙ pow-add 2 (l - suc k) (suc k)) ∙ sym (mul-assoc m (2 ^ (l - suc k)) (2 ^ suc k))
+neg-exp m k l h = ap (λ (z : ℕ). z * 2 ^ l) (mul-one m) ∙ ap (λ (z : ℕ). m * z) (ap (λ (z : ℕ). 2 ^ z) (sym (back l (suc k) h)) ∙ pow-add 2 (l - suc k) (suc k))
+    ∙ sym (mul-assoc m (2 ^ (l - suc k)) (2 ^ suc k))
 
 pub fits-on : (x : Float) → T (fits binary64 x) → T (finite x) → On64 x
 unfolding fits
@@ -89,10 +91,7 @@ add-pos x y h k t =
     let n : Near (half binary64) (v * unit64) unit64 g = (grid-up binary64 v unit64 (pow-pos 1074), grid-down binary64 v unit64 (pow-pos 1074)) in
     subst (λ (w : Float). Pos64 w × Near (half binary64) v 1 (mag64 w)) (sym e)
     (subst (λ (w : ℕ). HasValue z false w unit64 × Near (half binary64) v 1 w) (sym q)
-    (r, near-cancel (half binary64) v 1 unit64 g (pow-pos 1074) (subst (λ (w : ℕ). Near (half binary64) (v * unit64) w g) (one-times unit64) n)))
-  where
-    one-times : (z : ℕ) → z ≡ 1 * z
-    one-times z = omega arith
+    (r, near-cancel (half binary64) v 1 unit64 g (pow-pos 1074) (subst (λ (w : ℕ). Near (half binary64) (v * unit64) w g) (sym (one-mul unit64)) n)))
 
 -- ---- the sum of a row: the exact sum is little more than the rounded one
 loss : (v g : ℕ) → Near (half binary64) v 1 g → v * 1048576 ≤ g * 1048577 + 1048576
@@ -103,7 +102,8 @@ grow : (A a g v g' w j : ℕ) → 1024 * A ≤ g * w + 2048 * j → v ≡ g + a 
 grow A a g v g' w j h e l lo hi =
     let p : v * w ≡ g * w + a * w = ap (λ (z : ℕ). z * w) e ∙ add-mul g a w in
     let q : a * 1024 ≤ a * w = mul-le-mul-left a lo in
-    let r : v * w * 1048576 ≤ g' * w * 1048577 + 1048576 * w = le-trans (le-of-eq (mul-right-comm v w 1048576)) (le-trans (mul-le-mul-right w l) (le-of-eq (add-mul (g' * 1048577) 1048576 w ∙ ap (λ (z : ℕ). z + 1048576 * w) (mul-right-comm g' 1048577 w)))) in
+    let r : v * w * 1048576 ≤ g' * w * 1048577 + 1048576 * w = le-trans (le-of-eq (mul-right-comm v w 1048576))
+    (le-trans (mul-le-mul-right w l) (le-of-eq (add-mul (g' * 1048577) 1048576 w ∙ ap (λ (z : ℕ). z + 1048576 * w) (mul-right-comm g' 1048577 w)))) in
     let s : g' * w ≤ g' * 1044 = mul-le-mul-left g' hi in
     let t : g' * suc w ≡ g' * w + g' = native.Mathlib.Nat.mul-suc g' w in
     let one : v * w ≤ g' * w + g' + 1050 = omega arith in
@@ -132,7 +132,8 @@ abs-sum (suc k) f l fit t =
       λ j h. pick j h (ih .0) o,
       ad .0,
       subst (λ (z : ℕ). 1024 * (total (suc k) (λ j. mag64 (f j)) + mag64 (f (suc k))) ≤ mag64 (s ⊕ y) * z + 2048 * suc (suc k)) (sym (native.Mathlib.Nat.add-suc 1024 (suc k)))
-          (grow (total (suc k) (λ j. mag64 (f j))) (mag64 (f (suc k))) (mag64 s) v (mag64 (s ⊕ y)) (1024 + suc k) (suc k) (ih .2) (ap (λ (z : ℕ). mag64 s + z) (abs-mag (f (suc k)))) (loss v (mag64 (s ⊕ y)) (ad .1)) (low1 (suc k)) (high1 (suc k) (le-trans (le-suc (suc k)) l))),
+          (grow (total (suc k) (λ j. mag64 (f j))) (mag64 (f (suc k))) (mag64 s) v (mag64 (s ⊕ y)) (1024 + suc k) (suc k) (ih .2) (ap (λ (z : ℕ). mag64 s + z) (abs-mag (f (suc k))))
+          (loss v (mag64 (s ⊕ y)) (ad .1)) (low1 (suc k)) (high1 (suc k) (le-trans (le-suc (suc k)) l))),
     )
   where
     low1 : (x : ℕ) → 1024 ≤ 1024 + x
@@ -146,10 +147,7 @@ abs-sum (suc k) f l fit t =
 
 -- ---- one row, scaled
 two-pow-value : (s : ℕ) → HasValue (power s) false (2 ^ s) 1
-two-pow-value s = (refl, ap (λ (z : ℕ). z * 1) (one-times (2 ^ s)))
-  where
-    one-times : (z : ℕ) → 1 * z ≡ z
-    one-times z = omega arith
+two-pow-value s = (refl, ap (λ (z : ℕ). z * 1) (one-mul (2 ^ s)))
 
 tail : (k A g : ℕ) → k ≤ 20 → 1024 * A ≤ g * (1024 + k) + 2048 * k → 1024 * A ≤ g * 1044 + 40960
 tail k A g h l = let a : g * (1024 + k) ≤ g * 1044 = mul-le-mul-left g (up' k h) in omega arith
@@ -174,7 +172,8 @@ shrunk zb A g w z n n20 h a l k p =
 abbrev pub β64 : ℕ
 β64 = unit64 * 530 / 1024
 
-pub scaled-row : (k s : ℕ) (f : ℕ → Float) → suc k ≤ 20 → ((j : ℕ) → j < suc k → T (fits binary64 (f j))) → T (finite (sumOf (suc k) (λ j. abs (f j)))) → mag64 (sumOf (suc k) (λ j. abs (f j))) * 2 ≤ 2 ^ s * unit64
+pub scaled-row : (k s : ℕ) (f : ℕ → Float) → suc k ≤ 20 → ((j : ℕ) → j < suc k → T (fits binary64 (f j)))
+    → T (finite (sumOf (suc k) (λ j. abs (f j)))) → mag64 (sumOf (suc k) (λ j. abs (f j))) * 2 ≤ 2 ^ s * unit64
     → ((j : ℕ) → j < suc k → On64 (f j ⊘ power s)) × (total (suc k) (λ j. mag64 (f j ⊘ power s)) * 1024 ≤ unit64 * 530)
 scaled-row k s f n20 fit t l =
     let n = suc k in

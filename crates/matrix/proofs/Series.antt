@@ -11,12 +11,11 @@ use lib.IntN.{pos}
 use lib.ListN.{length, set}
 use Rattle.loops.specs.Loop.{stores, tab, _!_}
 use Rattle.loops.proofs.Loops.{length-tab, tab-at, stores-step0}
-use Rattle.loops.proofs.Stores.{tab-ext}
+use Rattle.loops.proofs.Stores.{tab-ext, run-all, ahead}
 use Rattle.float.specs.Arith.{_⊕_, _⊗_, _⊘_, zero+, one, epsilon, abs, larger, most}
-use Rattle.float.proofs.Sums.{most-step, most-end}
+use Rattle.float.proofs.Sums.{most-step, most-end, most-ext}
 use Rattle.matrix.specs.Matrix.{identity, matMul, divAll, addAll, maxAbs, nextTerm, small, series, taylor, scaled, power, squared}
 use Rattle.matrix.specs.Calls.{Added, Turned, Summed}
-use Rattle.matrix.proofs.Runs.{run-all, ahead, most-ext}
 use Rattle.matrix.proofs.Products.{even-end, odd-end}
 
 -- ---- a term divided and added
@@ -35,7 +34,8 @@ module _ (t₀ s₀ : List Float) (d : Float) (t s : List Float) (p : ℕ) (et :
       most-step (λ q. abs (s₀ ! q ⊕ t₀ ! q ⊘ d)) o p x a y e
       (rw (ahead (λ q x. x ⊘ d) p t₀ t et, ahead (λ q x. x ⊕ t₀ ! q ⊘ d) p s₀ s es) at f) g
 
-  pub added : (x y : Float) → p ≡ length t₀ → length s₀ ≡ length t₀ → x ≡ most p (λ q. abs (t₀ ! q ⊘ d)) zero+ → y ≡ most p (λ q. abs (s₀ ! q ⊕ t₀ ! q ⊘ d)) one → Added t₀ s₀ d t s (le x (epsilon ⊗ y))
+  pub added : (x y : Float) → p ≡ length t₀ → length s₀ ≡ length t₀ → x ≡ most p (λ q. abs (t₀ ! q ⊘ d)) zero+
+      → y ≡ most p (λ q. abs (s₀ ! q ⊕ t₀ ! q ⊘ d)) one → Added t₀ s₀ d t s (le x (epsilon ⊗ y))
   unfolding divAll addAll small maxAbs
   added x y h l ex ey =
       let t' : t ≡ tab (length t₀) (λ q. t₀ ! q ⊘ d) = run-all (λ q x. x ⊘ d) t₀ t p et h in
@@ -46,7 +46,11 @@ module _ (t₀ s₀ : List Float) (d : Float) (t s : List Float) (p : ℕ) (et :
       let ls : length s ≡ length s₀ = rw s' (length-tab (length s₀) _) in
       let x' : x ≡ most (length t) (λ q. abs (t ! q)) zero+ = rw lt (most-end _ zero+ p (length t₀) x ex h ∙ most-ext (length t₀) _ _ zero+ (λ q k. ap abs (sym (at-t q k)))) in
       let y' : y ≡ most (length s) (λ q. abs (s ! q)) one = rw ls (most-end _ one p (length s₀) y ey (omega arith) ∙ most-ext (length s₀) _ _ one (λ q k. ap abs (sym (at-s q k)))) in
-      record { divided = t'; added = s' ∙ tab-ext (length s₀) _ _ (λ q k. ap (λ z. s₀ ! q ⊕ z) (sym (at-t q (omega arith)))); last = ap (λ z. le z (epsilon ⊗ y)) x' ∙ ap (λ z. le (most (length t) (λ q. abs (t ! q)) zero+) (epsilon ⊗ z)) y' }
+      record {
+        divided = t';
+        added = s' ∙ tab-ext (length s₀) _ _ (λ q k. ap (λ z. s₀ ! q ⊕ z) (sym (at-t q (omega arith))));
+        last = ap (λ z. le z (epsilon ⊗ y)) x' ∙ ap (λ z. le (most (length t) (λ q. abs (t ! q)) zero+) (epsilon ⊗ z)) y';
+      }
 
 pub turned : (a s t x y z : List Float) (k n : ℕ) (b : Bool) → x ≡ matMul t a n → Added x s (ofInt binary64 (pos k)) y z b → Turned a s t k n y z b
 unfolding nextTerm

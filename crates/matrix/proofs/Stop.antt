@@ -2,7 +2,8 @@
 use mathlib.Core.Path.{_≡_, refl, sym, ap, _∙_, subst}
 use mathlib.Core.List.{List}
 use Prim.Native.Nat.{ℕ, zero, suc, _+_, _*_, _/_, _%_, _^_, _≤_, _<_, zero-le}
-use native.Mathlib.Nat.{le-trans, le-refl, le-of-eq, le-of-lt, le-suc, not-le-of-lt, zero-lt-suc, mul-comm, mul-le-mul-right, mul-le-mul-left, mul-pos, le-of-mul-le-mul-right, div-lt-iff-lt-mul, div-add-mod', mod-lt, add-zero, add-suc, suc-add, le-of-suc-le-suc}
+use native.Mathlib.Nat.{le-trans, le-refl, le-of-eq, le-of-lt, le-suc, not-le-of-lt, zero-lt-suc, mul-comm, mul-le-mul-right, mul-le-mul-left, mul-pos, le-of-mul-le-mul-right}
+use native.Mathlib.Nat.{div-lt-iff-lt-mul, div-add-mod', mod-lt, add-zero, add-suc, suc-add, le-of-suc-le-suc, one-mul}
 use native.Mathlib.Omega.{arith}
 use mathlib.Core.Bool.{Bool, true, false, not, cond, true≢false}
 use lib.Dec.{T, ltb, ltb→lt, nltb→le, lit≤}
@@ -14,12 +15,13 @@ use lib.Ieee.Fits.{down-pos}
 use lib.Ieee.Exact.{HasValue, round-exact}
 use lib.Ieee.Order.{transfer, le-of-values, round-mono}
 use lib.Ieee.Positive.{num, den, den-pos, positive, above, above-of-le, own-value, positive-of-value, values-of-le, through}
+use Rattle.loops.proofs.Places.{size-some}
 use Rattle.loops.specs.Loop.{_!_}
 use Rattle.float.specs.Arith.{_⊗_, zero+, one, epsilon, abs, larger, most}
 use Rattle.matrix.specs.Matrix.{at, maxAbs, small, identity, nextTerm, addAll, series, taylor}
 use Rattle.float.proofs.Mag.{mag}
 use Rattle.float.proofs.Total.{entry-le}
-use Rattle.matrix.proofs.Bools.{is-true}
+use lib.Ieee.Bits.{is-true}
 use Rattle.matrix.proofs.Series.{series-stop, series-go}
 use Rattle.matrix.proofs.RowSums.{On64, mag64, unit64, zero-mag}
 use Rattle.matrix.proofs.Terms.{Rows, bd, bd-15, termAt, term-rows, term-length}
@@ -72,7 +74,8 @@ unfolding ofBits ofFields odd trailingZeros
 zero-pos = subst (λ (z : ℕ). HasValue zero+ false z unit64) (sym zero-mag) (refl, refl)
 
 -- ---- the largest magnitude among the first k of a list
-most-le : (M : ℕ) (x : Float) (f : ℕ → Float) (k : ℕ) → Pos64 x → mag64 x ≤ M → ((p : ℕ) → p < k → On64 (f p) × (mag64 (f p) ≤ M)) → Pos64 (most k (λ p. abs (f p)) x) × (mag64 (most k (λ p. abs (f p)) x) ≤ M)
+most-le : (M : ℕ) (x : Float) (f : ℕ → Float) (k : ℕ) → Pos64 x → mag64 x ≤ M → ((p : ℕ) → p < k → On64 (f p) × (mag64 (f p) ≤ M))
+    → Pos64 (most k (λ p. abs (f p)) x) × (mag64 (most k (λ p. abs (f p)) x) ≤ M)
 unfolding most
 most-le M x f zero h l all = (h, l)
 most-le M x f (suc k) h l all =
@@ -152,10 +155,7 @@ under-eps x (fin false n d) p l h =
     (round-mono binary64 1 (2 ^ 52) (1 * 1 * (n * up d)) (2 ^ 52 * down d) (pow-pos 52) (mul-pos (pow-pos 52) (down-pos d)) (arrange (down d) (n * up d) (2 ^ 52) h))
   where
     arrange : (a b c : ℕ) → a ≤ b → 1 * (c * a) ≤ 1 * b * c
-    arrange a b c h = let k : c * a ≤ c * b = mul-le-mul-left c h in let e : b * c ≡ c * b = mul-comm b c in let u : 1 * b * c ≡ b * c = ap (λ (z : ℕ). z * c) (one-times b) in omega arith
-      where
-        one-times : (z : ℕ) → 1 * z ≡ z
-        one-times z = omega arith
+    arrange a b c h = let k : c * a ≤ c * b = mul-le-mul-left c h in let e : b * c ≡ c * b = mul-comm b c in let u : 1 * b * c ≡ b * c = ap (λ (z : ℕ). z * c) (one-mul b) in omega arith
 
 pub small-if : (t r : List Float) → ((p : ℕ) → p < length t → On64 (t ! p) × (mag64 (t ! p) ≤ 2 ^ 1022)) → T (small t r)
 unfolding small maxAbs
@@ -167,7 +167,7 @@ small-if t r h =
 pub entries : (n R : ℕ) (t : List Float) → length t ≡ n * n → Rows n t R → (p : ℕ) → p < length t → On64 (getD t p nan) × (mag64 (getD t p nan) ≤ R)
 entries n R t len rows p h =
     let h' : p < n * n = subst (λ (z : ℕ). p < z) len h in
-    let n-pos : 0 < n = pos-of p n h' in
+    let n-pos : 0 < n = size-some p n h' in
     let i = p / n in
     let j = p % n in
     let hi : i < n = div-lt-iff-lt-mul n-pos .1 h' in
@@ -175,10 +175,6 @@ entries n R t len rows p h =
     let r = rows i hi in
     subst (λ (z : ℕ). On64 (getD t z nan) × (mag64 (getD t z nan) ≤ R)) (div-add-mod' p n)
     (r .0 j hj, le-trans (entry-le n (λ k. mag64 (at t n i k)) j hj) (r .1))
-  where
-    pos-of : (p n : ℕ) → p < n * n → 0 < n
-    pos-of p zero h = absurd (not-le-of-lt h (le-trans (le-of-eq (native.Mathlib.Nat.zero-mul 0)) zero-le))
-    pos-of p (suc n) h = zero-lt-suc n
 
 pub stops-at-15 : (n β : ℕ) (b : List Float) → n ≤ 20 → β * 1024 ≤ unit64 * 530 → Rows n b β → (r : List Float) → T (small (termAt b n 15) r)
 stops-at-15 n β b n20 β-le rows r =
@@ -199,15 +195,18 @@ next-is b n k = refl
 abbrev with : List Float → ℕ → ℕ → List Float → List Float
 with b n k r = addAll r (termAt b n (suc k))
 
-stop-here : (d : ℕ) (b : List Float) (n k : ℕ) (r : List Float) → small (termAt b n (suc k)) (with b n k r) ≡ true → series (suc d) b n (termAt b n k) r (suc k) ≡ record { sum = with b n k r; terms = suc k }
+stop-here : (d : ℕ) (b : List Float) (n k : ℕ) (r : List Float) → small (termAt b n (suc k)) (with b n k r) ≡ true
+    → series (suc d) b n (termAt b n k) r (suc k) ≡ record { sum = with b n k r; terms = suc k }
 stop-here d b n k r h = series-stop d b n (termAt b n k) r (suc k) (rw next-is h) ∙ rw next-is
 
-go-on : (d : ℕ) (b : List Float) (n k : ℕ) (r : List Float) → small (termAt b n (suc k)) (with b n k r) ≡ false → series (suc d) b n (termAt b n k) r (suc k) ≡ series d b n (termAt b n (suc k)) (with b n k r) (suc (suc k))
+go-on : (d : ℕ) (b : List Float) (n k : ℕ) (r : List Float) → small (termAt b n (suc k)) (with b n k r) ≡ false
+    → series (suc d) b n (termAt b n k) r (suc k) ≡ series d b n (termAt b n (suc k)) (with b n k r) (suc (suc k))
 go-on d b n k r h = series-go d b n (termAt b n k) r (suc k) (rw next-is h) ∙ rw next-is
 
 -- where the test passes at term k + e + 1, the series stops there or sooner, and more room than e + 1 terms is never used
 module _ (b : List Float) (n : ℕ) where
-  ends : (e d k : ℕ) (r : List Float) → Passes b n (suc (k + e)) → e < d → (series d b n (termAt b n k) r (suc k) .terms ≤ suc (k + e)) × (series d b n (termAt b n k) r (suc k) ≡ series (suc e) b n (termAt b n k) r (suc k))
+  ends : (e d k : ℕ) (r : List Float) → Passes b n (suc (k + e)) → e < d
+      → (series d b n (termAt b n k) r (suc k) .terms ≤ suc (k + e)) × (series d b n (termAt b n k) r (suc k) ≡ series (suc e) b n (termAt b n k) r (suc k))
   ends e zero k r h l = absurd (not-le-of-lt l zero-le)
   ends zero (suc d) k r h l =
       let t : small (termAt b n (suc k)) (with b n k r) ≡ true = is-true _ (rw add-zero at (h (with b n k r))) in
@@ -218,7 +217,8 @@ module _ (b : List Float) (n : ℕ) where
       same = add-suc k e ∙ sym (suc-add k e)
 
       go : (c : Bool) → small (termAt b n (suc k)) (with b n k r) ≡ c
-          → (series d b n (termAt b n (suc k)) (with b n k r) (suc (suc k)) .terms ≤ suc (suc k + e)) × (series d b n (termAt b n (suc k)) (with b n k r) (suc (suc k)) ≡ series (suc e) b n (termAt b n (suc k)) (with b n k r) (suc (suc k)))
+          → (series d b n (termAt b n (suc k)) (with b n k r) (suc (suc k)) .terms ≤ suc (suc k + e)) ×
+          (series d b n (termAt b n (suc k)) (with b n k r) (suc (suc k)) ≡ series (suc e) b n (termAt b n (suc k)) (with b n k r) (suc (suc k)))
           → (series (suc d) b n (termAt b n k) r (suc k) .terms ≤ suc (k + suc e)) × (series (suc d) b n (termAt b n k) r (suc k) ≡ series (suc (suc e)) b n (termAt b n k) r (suc k))
       go true t ih = (rw (stop-here d b n k r t) (omega arith), stop-here d b n k r t ∙ sym (stop-here (suc e) b n k r t))
       go false t ih = (rw (go-on d b n k r t, same) (ih .0), go-on d b n k r t ∙ ih .1 ∙ sym (go-on (suc e) b n k r t))

@@ -166,14 +166,6 @@ pub fn mat_vec(m: &[f64], v: [f64; 16], n: usize) -> [f64; 16]
 
 // ---- step 1: the norm
 
-// The absolute value, as selects and not as branches: signs can't be foretold.
-fn magnitude(x: f64) -> f64
-    ensures { λ r. ⌜ r ≡ abs x ⌝ }
-{
-    let size = if x < 0.0 { -x } else { x };
-    if size == 0.0 { 0.0 } else { size }
-}
-
 // The absolute values of row i, summed from the first.
 fn row_sum(m: &[f64], i: usize, n: usize) -> f64
     requires { ⌜ (i < n) × (n ≤ 20) × (length (now m) ≡ n * n) ⌝ }
@@ -181,10 +173,10 @@ fn row_sum(m: &[f64], i: usize, n: usize) -> f64
 {
     let row = row_start(i, n);
     let last = n - 1;
-    let mut sum = magnitude(m[row]);
+    let mut sum = float::abs(m[row]);
     let mut column = 1;
     while column <= last {
-        sum = sum + magnitude(m[row + column]);
+        sum = sum + float::abs(m[row + column]);
         column += 1;
     }
     sum
@@ -265,8 +257,8 @@ fn add_term(term: &mut [f64], sum: &mut [f64], d: f64) -> bool
         let s = sum[p] + t;
         term[p] = t;
         sum[p] = s;
-        big = raise(big, magnitude(t));
-        top = raise(top, magnitude(s));
+        big = raise(big, float::abs(t));
+        top = raise(top, float::abs(s));
     }
     big <= 2.220446049250313e-16 * top
 }

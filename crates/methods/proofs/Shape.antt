@@ -1,7 +1,7 @@
 -- The shape of the sixteen passes, by one walk over their trees. Assumes nothing.
 use Prim.Native.Nat.{ℕ, zero, suc, _+_, _-_, _≤_, _<_}
 use mathlib.Core.Path.{_≡_, refl, subst}
-use mathlib.Core.Bool.{Bool, true, false, cond, _&&_, and-eq-true-iff}
+use mathlib.Core.Bool.{Bool, true, false, cond, _&&_}
 use mathlib.Core.List.{List, [], _∷_}
 use native.Mathlib.Nat.{not-suc-le-zero}
 use native.Mathlib.Omega.{arith}
@@ -10,6 +10,7 @@ use lib.Ieee.{Float}
 use lib.ListN.{length, getD, replicate, List·getD-eq-default}
 use lib.Seq.{getD-append-add, getD-drop}
 use borrow.Author.Tests.{leb-true}
+use Rattle.loops.proofs.Bools.{both-true}
 use Rattle.loops.specs.Loop.{tab, mat, fill, _!_}
 use Rattle.loops.proofs.Loops.{length-tab}
 use Rattle.float.specs.Arith.{_⊗_, zero+, finite}
@@ -52,10 +53,12 @@ vec-clear n f i h l =
 pub vec-vector : (n : ℕ) (f : ℕ → Float) → n ≤ 16 → Vector n (vec n f)
 vec-vector n f small = record { places = length-vec n f small; clear = vec-clear n f }
 
+-- and so is a difference
 pub subtract-vector : (n : ℕ) (x y : List Float) → n ≤ 16 → Vector n (subtract n x y)
 unfolding subtract
 subtract-vector n x y small = vec-vector n _ small
 
+-- and +0.0 in every place
 pub zeros-vector : (n : ℕ) → Vector n zeros
 zeros-vector n = record { places = unfold zeros in refl; clear = λ i h l. zeros-at i l }
 
@@ -63,6 +66,7 @@ zeros-vector n = record { places = unfold zeros in refl; clear = λ i h l. zeros
 record Fits (n : ℕ) (x : List Float) : Type 0 where
   fits : n ≤ 16 → Vector n x
 
+-- what the helpers on vectors make
 module _ (n : ℕ) where
   zeros-v : Fits n zeros
   zeros-v = record { fits = λ small. zeros-vector n }
@@ -101,10 +105,12 @@ data Shaped (n : ℕ) : ℕ → Pass → Type 0 where
   ask-s : {m : ℕ} {ok : _} {x : List Float} {time : Float} {next : List Float → Pass} → Fits n x → ((r : List Float) → Shaped n m (next r)) → Shaped n (suc m) (ask ok x time next)
   done-s : {ok : _} {x e : List Float} → Fits n x → Fits n e → Shaped n 0 (done ok x e)
 
+-- what is told of the shape: the number of questions
 shaped-asks : {n m : ℕ} {p : Pass} → Shaped n m p → Asks m p
 shaped-asks (ask-s v next) = asks-more (λ r. shaped-asks (next r))
 shaped-asks (done-s v w) = asks-none
 
+-- and the vectors
 shaped-vectors : {n m : ℕ} {p : Pass} → n ≤ 16 → Shaped n m p → Vectors n p
 shaped-vectors small (ask-s v next) = asked-vector (v .fits small) (λ r. shaped-vectors small (next r))
 shaped-vectors small (done-s v w) = ended-vectors (v .fits small) (w .fits small)
@@ -226,7 +232,7 @@ module _ (n : ℕ) (a u : List Float) (t h : Float) (f g : List Float) where
   unfolding exprb43
   exprb43-s = search parts depth 60
 
--- ---- by number
+-- ---- by number: a list of passes, and how many questions each asks
 data Each (n : ℕ) : List ℕ → List Pass → Type 0 where
   none-s : Each n [] []
   more-s : {m : ℕ} {ms : List ℕ} {p : Pass} {ps : List Pass} → Shaped n m p → Each n ms ps → Each n (m ∷ ms) (p ∷ ps)
@@ -237,6 +243,7 @@ choose-s k none-s past = past
 choose-s zero (more-s first rest) past = first
 choose-s (suc k) (more-s first rest) past = choose-s k rest past
 
+-- scheme k
 pass-s : (k : ℕ) (p : Point) (a au g : List Float) → Shaped (p .n) (questions k) (pass k p a au g)
 unfolding pass questions
 pass-s k p a au g =
@@ -272,8 +279,8 @@ allSmall (x ∷ xs) = leb x 4 && allSmall xs
 small-at : (l : List ℕ) → allSmall l ≡ true → (k : ℕ) → getD l k 0 ≤ 4
 unfolding allSmall
 small-at [] e k = omega arith
-small-at (x ∷ xs) e zero = leb-true x 4 (and-eq-true-iff (leb x 4) (allSmall xs) .0 e .0)
-small-at (x ∷ xs) e (suc k) = small-at xs (and-eq-true-iff (leb x 4) (allSmall xs) .0 e .1) k
+small-at (x ∷ xs) e zero = leb-true x 4 (both-true (leb x 4) (allSmall xs) e .0)
+small-at (x ∷ xs) e (suc k) = small-at xs (both-true (leb x 4) (allSmall xs) e .1) k
 
 -- the table of `questions`
 abbrev counts : List ℕ
@@ -289,6 +296,7 @@ pub questions-past : (k : ℕ) → 16 ≤ k → questions k ≡ 0
 unfolding questions
 questions-past k h = List·getD-eq-default counts 0 h
 
+-- ---- THE CLAIMS, of a pass
 pub asks-questions : AsksQuestions
 asks-questions k p a au nonlinear0 = shaped-asks (pass-s k p a au nonlinear0)
 
@@ -308,8 +316,9 @@ askTest b x time = b && allFinite x && finite time
 abbrev endTest : Bool → List Float → List Float → Bool
 endTest b x e = b && allFinite x && allFinite e
 
+-- the last two of three tests that hold
 later-two : (a b c : Bool) → (a && b && c) ≡ true → (b ≡ true) × (c ≡ true)
-later-two a b c h = let outer = and-eq-true-iff (a && b) c .0 h in (and-eq-true-iff a b .0 (outer .0) .1, outer .1)
+later-two a b c h = let outer = both-true (a && b) c h in (both-true a b (outer .0) .1, outer .1)
 
 -- what holds of `fails`, and of a stand whose tests hold, holds of the stand under its tests
 or-fails : (P : Stand → Type 0) → P fails → (b : Bool) (s : Stand) → (b ≡ true → P s) → P (cond b s fails)
@@ -332,6 +341,7 @@ counted-fails : (m count : ℕ) → Counted m count fails
 unfolding Counted
 counted-fails m count = tt
 
+-- wherever answers lead
 replay-counted : (n : ℕ) {m : ℕ} {p : Pass} → Asks m p → (count j : ℕ) (answers : List Float) → Counted m count (replay n p count j answers)
 unfolding replay
 replay-counted n (asks-more {m} {ok} {x} {time} next) zero j answers =
@@ -347,6 +357,7 @@ Kept n fails = Unit
 Kept n (asks x time) = Whole n x × (finite time ≡ true)
 Kept n (ends x e) = Whole n x × Whole n e
 
+-- by the tests of a question, and of an end
 ask-kept : {n : ℕ} {x : List Float} (b : Bool) (time : Float) → Vector n x → askTest b x time ≡ true → Whole n x × (finite time ≡ true)
 ask-kept {n} {x} b time v h = let t = later-two b (allFinite x) (finite time) h in (record { vector = v; numbers = t .0 }, t .1)
 
@@ -355,6 +366,7 @@ end-kept {n} {x} {e} b v w h =
     let t = later-two b (allFinite x) (allFinite e) h in
     (record { vector = v; numbers = t .0 }, record { vector = w; numbers = t .1 })
 
+-- wherever answers lead
 replay-kept : {n : ℕ} {p : Pass} → Vectors n p → (d count j : ℕ) (answers : List Float) → Kept n (replay d p count j answers)
 unfolding replay Kept
 replay-kept {n} (asked-vector {ok} {x} {time} v next) d zero j answers = or-fails (Kept n) tt (askTest (flag ok) x time) (asks x time) (ask-kept (flag ok) time v)
@@ -373,6 +385,7 @@ module _ {m : ℕ} {p : Pass} (shape : Asks m p) (n count j : ℕ) (answers : Li
   replay-ends h = subst (Counted m count) h (replay-counted n shape count j answers)
 
 -- ---- the same of a step
+-- a step stands where its pass does
 finish-asks : (b : Bool) (g : List Float) (s : Stand) {x : List Float} {time : Float} → cond b (finish g s) refused ≡ asking x time → s ≡ asks x time
 unfolding finish
 finish-asks true g fails h = cc
@@ -387,6 +400,7 @@ finish-ends true g (asks y t) h = let z : _≡_ {A = ℕ} 0 1 = cc in absurd (om
 finish-ends true g (ends y e) h = (refl, cc, cc)
 finish-ends false g s h = let z : _≡_ {A = ℕ} 0 1 = cc in absurd (omega arith)
 
+-- ---- THE CLAIMS, of a step
 pub asks-early : AsksEarly
 unfolding performStep Kept
 asks-early k p a count j answers x time small h =
@@ -405,5 +419,5 @@ ends-late k p a count j answers x e g small h =
     let stand = replay (p .n) (pass k p a au g') count j answers in
     let split = finish-ends (allFinite au && allFinite g') g' stand h in
     let kept = subst (Kept (p .n)) (split .1) (replay-kept (pass-vectors k p a au g' small) (p .n) count j answers) in
-    let whole : Whole (p .n) g' = record { vector = subtract-vector (p .n) (p .f0) au small; numbers = and-eq-true-iff (allFinite au) (allFinite g') .0 (split .0) .1 } in
+    let whole : Whole (p .n) g' = record { vector = subtract-vector (p .n) (p .f0) au small; numbers = both-true (allFinite au) (allFinite g') (split .0) .1 } in
     record { late = replay-ends (asks-questions k p a au g') (p .n) count j answers (split .1); candidate = kept .0; error = kept .1; nonlinear = subst (Whole (p .n)) (split .2) whole }

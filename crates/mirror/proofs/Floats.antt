@@ -9,6 +9,7 @@ use lib.Dec.{T, ltb, eqb, nltb→le, leb·zero, leb·suc-zero, leb·suc-suc}
 use lib.IntN.{ℤ, pos}
 use lib.Ieee.{Float, nan, inf, fin, binary64, prec, emax, low, up, down, unlike, neg, add, sub, mul, div, sum, round, units, odd, size, span, climb, nearest, ofBits, ofFields}
 use lib.Count.{trailingZeros}
+use Rattle.float.proofs.Signs.{unlike-mix, unlike-assoc, unlike-self, false-unlike, unlike-not}
 use Rattle.float.specs.Arith.{zero+, abs, finite, _⊕_, _⊖_, _⊗_, _⊘_}
 use Rattle.mirror.specs.Mirror.{flip, Zero, Agrees}
 
@@ -17,53 +18,6 @@ pub data Mirror (s : Bool) : Float → Float → Type 0 where
   m-inf : (t : Bool) → Mirror s (inf t) (inf (unlike s t))
   m-fin : (t : Bool) (m : ℕ) (e : ℤ) → Mirror s (fin t m e) (fin (unlike s t) m e)
   m-zero : (t u : Bool) → Mirror s (fin t 0 (pos 0)) (fin u 0 (pos 0))
-
--- ---- signs
-pub unlike-mix : (s t u v : Bool) → unlike (unlike s t) (unlike u v) ≡ unlike (unlike s u) (unlike t v)
-unlike-mix true true true true = refl
-unlike-mix true true true false = refl
-unlike-mix true true false true = refl
-unlike-mix true true false false = refl
-unlike-mix true false true true = refl
-unlike-mix true false true false = refl
-unlike-mix true false false true = refl
-unlike-mix true false false false = refl
-unlike-mix false true true true = refl
-unlike-mix false true true false = refl
-unlike-mix false true false true = refl
-unlike-mix false true false false = refl
-unlike-mix false false true true = refl
-unlike-mix false false true false = refl
-unlike-mix false false false true = refl
-unlike-mix false false false false = refl
-
-pub unlike-assoc : (s t u : Bool) → unlike (unlike s t) u ≡ unlike s (unlike t u)
-unlike-assoc true true true = refl
-unlike-assoc true true false = refl
-unlike-assoc true false true = refl
-unlike-assoc true false false = refl
-unlike-assoc false true true = refl
-unlike-assoc false true false = refl
-unlike-assoc false false true = refl
-unlike-assoc false false false = refl
-
-pub unlike-self : (s : Bool) → unlike s s ≡ false
-unlike-self true = refl
-unlike-self false = refl
-
-pub unlike-false : (s : Bool) → unlike s false ≡ s
-unlike-false true = refl
-unlike-false false = refl
-
-pub false-unlike : (s : Bool) → unlike false s ≡ s
-false-unlike true = refl
-false-unlike false = refl
-
-pub unlike-not : (s t : Bool) → not (unlike s t) ≡ unlike s (not t)
-unlike-not true true = refl
-unlike-not true false = refl
-unlike-not false true = refl
-unlike-not false false = refl
 
 -- ---- the relation
 pub m-refl : (x : Float) → Mirror false x x
@@ -269,7 +223,8 @@ mul-flip s r (inf t) (inf u) = rw (unlike-mix s t r u) (m-inf (unlike t u))
 mul-flip s r (inf t) (fin u n d) = rw (unlike-mix s t r u) (cond-m (eqb n 0) m-nan (m-inf (unlike t u)))
 mul-flip s r (fin t m e) nan = m-nan
 mul-flip s r (fin t m e) (inf u) = rw (unlike-mix s t r u) (cond-m (eqb m 0) m-nan (m-inf (unlike t u)))
-mul-flip s r (fin t m e) (fin u n d) = subst (λ (b : Bool). Mirror (unlike s r) (round binary64 (unlike t u) (m * up e * (n * up d)) (down e * down d)) (round binary64 b (m * up e * (n * up d)) (down e * down d))) (sym (unlike-mix s t r u))
+mul-flip s r (fin t m e) (fin u n d) = subst (λ (b : Bool). Mirror (unlike s r) (round binary64 (unlike t u) (m * up e * (n * up d)) (down e * down d))
+    (round binary64 b (m * up e * (n * up d)) (down e * down d))) (sym (unlike-mix s t r u))
     (round-m (unlike s r) (unlike t u) (m * up e * (n * up d)) (down e * down d))
 
 mul-turn-l : {x x' : Float} → Turn x x' → (y : Float) → Mirror false (x ⊗ y) (x' ⊗ y)
@@ -314,7 +269,8 @@ div-turn (same x) y = m-refl (x ⊘ y)
 div-turn (turned t u) nan = m-nan
 div-turn (turned t u) (inf v) = m-zero (unlike t v) (unlike u v)
 div-turn (turned t u) (fin v n d) = cond-m (eqb n 0) m-nan
-    (subst (λ (a : ℕ). Mirror false (round binary64 (unlike t v) a (n * up d * 1)) (round binary64 (unlike u v) a (n * up d * 1))) (sym (zero-mul (down d))) (round-0 false (unlike t v) (unlike u v) (n * up d * 1)))
+    (subst (λ (a : ℕ). Mirror false (round binary64 (unlike t v) a (n * up d * 1)) (round binary64 (unlike u v) a (n * up d * 1)))
+    (sym (zero-mul (down d))) (round-0 false (unlike t v) (unlike u v) (n * up d * 1)))
 
 pub div-m : {s : Bool} {x x' : Float} → Mirror s x x' → (y : Float) → Mirror s (x ⊘ y) (x' ⊘ y)
 div-m {s} {x} p y = m-then (div-flip s x y) (div-turn (view p) y)

@@ -10,14 +10,17 @@ use lib.Ieee.{Float, binary64, unlike, le, ofInt}
 use lib.ListN.{length}
 use borrow.Author.Tests.{lt-ltb, le-ltb}
 use Rattle.loops.specs.Loop.{iter, _!_}
+use Rattle.loops.proofs.Loops.{every-ext}
+use Rattle.float.proofs.Signs.{unlike-self, unlike-false, inner}
+use Rattle.float.proofs.Sums.{most-ext}
 use Rattle.float.specs.Arith.{_⊗_, zero+, one, epsilon, limit, finite, abs, most}
 use Rattle.matrix.specs.Matrix.{at, identity, matMul, divAll, addAll, maxAbs, rowSum, norm, admitted, squarings, power, scaled, nextTerm, small, Series, series, taylor, squared, exponential}
 use Rattle.methods.specs.declared.Action.{Action}
 use Rattle.methods.specs.Phi.{checked, over, augmentedEntry, augmented, phiAction, phiTerm, expAction}
-use Rattle.mirror.proofs.Floats.{Mirror, m-refl, add-m, mul-m, mul-same, div-m, abs-m, zero-m, agrees, unlike-self, unlike-false}
+use Rattle.mirror.proofs.Floats.{Mirror, m-refl, add-m, mul-m, mul-same, div-m, abs-m, zero-m, agrees}
 use Rattle.mirror.specs.Rows.{SameRowSums}
 use Rattle.mirror.proofs.Rows.{same-row-sums}
-use Rattle.mirror.proofs.Vectors.{Vecs, Mats, m-sign, cell, vec-m, tab-m, mat-m, iter-m, most-eq, every-eq, inner, zeros-m, scale-m, matVec-m}
+use Rattle.mirror.proofs.Vectors.{Vecs, Mats, m-sign, cell, vec-m, tab-m, mat-m, iter-m, zeros-m, scale-m, matVec-m}
 
 one-or-zero : (σ : ℕ → Bool) (i j : ℕ) → Mirror (unlike (σ i) (σ j)) (cond (eqb i j) one zero+) (cond (eqb i j) one zero+)
 one-or-zero σ i j = go (eqb i j) (eqb→eq i j)
@@ -59,15 +62,15 @@ module _ {n : ℕ} {σ : ℕ → Bool} where
 
   norm-m : {a a' : List Float} → Mats n σ a a' → norm a n ≡ norm a' n
   unfolding norm
-  norm-m A = most-eq n zero+ _ _ (rowSum-m A)
+  norm-m A = most-ext n _ _ zero+ (rowSum-m A)
 
   admitted-m : {a a' : List Float} → Mats n σ a a' → admitted a n ≡ admitted a' n
   unfolding admitted
-  admitted-m A = every-eq n _ _ (λ i h. ap (λ (x : Float). finite x && le x limit) (rowSum-m A i h))
+  admitted-m A = every-ext n _ _ (λ i h. ap (λ (x : Float). finite x && le x limit) (rowSum-m A i h))
 
   maxAbs-m : {a a' : List Float} (x : Float) → Mats n σ a a' → maxAbs x a ≡ maxAbs x a'
   unfolding maxAbs
-  maxAbs-m {a} {a'} x A = most-eq (length a) x _ _ (λ p h. abs-m (A .place p)) ∙ ap (λ (k : ℕ). most k (λ p. abs (a' ! p)) x) (A .size)
+  maxAbs-m {a} {a'} x A = most-ext (length a) _ _ x (λ p h. abs-m (A .place p)) ∙ ap (λ (k : ℕ). most k (λ p. abs (a' ! p)) x) (A .size)
 
   small-m : {a a' b b' : List Float} → Mats n σ a a' → Mats n σ b b' → small a b ≡ small a' b'
   unfolding small

@@ -1,6 +1,6 @@
 -- Two lists of numbers, place by place: mirrored where in use, equal elsewhere. Assumes nothing.
-use Prim.Native.Nat.{ℕ, zero, suc, _+_, _*_, _/_, _%_, _≤_, _<_}
-use native.Mathlib.Nat.{mul-comm, not-suc-le-zero, min-le-left, le-trans}
+use Prim.Native.Nat.{ℕ, _+_, _*_, _/_, _%_, _≤_, _<_}
+use native.Mathlib.Nat.{min-le-left, le-trans}
 use native.Mathlib.Decide.{ℕ-discrete, decLt}
 use native.Mathlib.Omega.{arith}
 use mathlib.Core.Path.{_≡_, refl, sym, ap, ap₂, _∙_, subst, subst₂}
@@ -10,19 +10,19 @@ use mathlib.Core.List.{List, []}
 use lib.Dec.{ltb}
 use lib.Ieee.{Float, nan}
 use lib.ListN.{length, replicate, take, length-take}
-use lib.Seq.{getD-take, getD-set-same, getD-set-other}
+use lib.Seq.{getD-take}
 use borrow.Author.Tests.{lt-ltb, le-ltb, ltb-true, ltb-false}
 use Rattle.loops.specs.Loop.{every, tab, stores, _!_}
-use Rattle.loops.proofs.Loops.{length-tab, tab-at}
-use Rattle.loops.proofs.Stores.{stores-suc, length-stores, stores-out}
-use Rattle.loops.proofs.Places.{place-row, place-column}
+use Rattle.loops.proofs.Loops.{every-ext, past-end, length-tab, tab-at}
+use Rattle.loops.proofs.Stores.{length-stores, stores-out, stores-in}
+use Rattle.loops.proofs.Places.{slot-row, slot-column}
 use Rattle.float.specs.Arith.{zero+, finite, plusZero}
 use Rattle.evaluation.specs.Evaluation.{allFinite}
 use Rattle.methods.specs.Pass.{answer}
 use Rattle.session.specs.Session.{clear, clearAnswers}
 use Rattle.mirror.specs.Mirror.{within}
 use Rattle.mirror.proofs.Floats.{Mirror, m-nan, finite-m}
-use Rattle.mirror.proofs.Vectors.{Vecs, Mats, cross, m-sign, past-end, blank-at, vec-m, every-eq}
+use Rattle.mirror.proofs.Vectors.{Vecs, Mats, cross, m-sign, blank-at, vec-m}
 
 abbrev pub At : Bool → Bool → Float → Float → Type 0
 At true s x y = Mirror s x y
@@ -62,11 +62,11 @@ blank-m used sign m = record { size = refl; at = λ p. at-same (used p) (sign p)
 pub finite-p : {used sign : ℕ → Bool} {x y : List Float} → Placed used sign x y → allFinite x ≡ allFinite y
 unfolding allFinite
 finite-p {used} {sign} {x} {y} P =
-    every-eq (length x) _ _ (λ p h. at-finite (used p) (sign p) _ _ (P .at p)) ∙ ap (λ (k : ℕ). every k (λ p. finite (y ! p))) (P .size)
+    every-ext (length x) _ _ (λ p h. at-finite (used p) (sign p) _ _ (P .at p)) ∙ ap (λ (k : ℕ). every k (λ p. finite (y ! p))) (P .size)
 
 every-clear : {used sign : ℕ → Bool} {x y : List Float} → Placed used sign x y → every (length x) (λ p. used p || plusZero (x ! p)) ≡ every (length y) (λ p. used p || plusZero (y ! p))
 every-clear {used} {sign} {x} {y} P =
-    every-eq (length x) _ _ (λ p h. at-clear (used p) (sign p) _ _ (P .at p)) ∙ ap (λ (k : ℕ). every k (λ p. used p || plusZero (y ! p))) (P .size)
+    every-ext (length x) _ _ (λ p h. at-clear (used p) (sign p) _ _ (P .at p)) ∙ ap (λ (k : ℕ). every k (λ p. used p || plusZero (y ! p))) (P .size)
 
 pub clear-p : {sign : ℕ → Bool} {x y : List Float} (k : ℕ) → Placed (within k) sign x y → clear k x ≡ clear k y
 unfolding clear
@@ -123,12 +123,6 @@ mats {n} {σ} {x} {y} P = record { size = rw (length-take (n * n) x, length-take
     go p (no h) = rw (short x p (omega arith), short y p (omega arith)) m-nan
 
 -- ---- the answers
-answer-row : (j i : ℕ) → i < 16 → (16 * j + i) / 16 ≡ j
-answer-row j i h = ap (λ (k : ℕ). (k + i) / 16) (mul-comm 16 j) ∙ place-row j i 16 h
-
-answer-column : (j i : ℕ) → i < 16 → (16 * j + i) % 16 ≡ i
-answer-column j i h = ap (λ (k : ℕ). (k + i) % 16) (mul-comm 16 j) ∙ place-column j i 16 h
-
 pub answer-m : {n : ℕ} {σ : ℕ → Bool} {x y : List Float} (c : ℕ) → n ≤ 16 → Placed (slots c n) (slot σ) x y → (j : ℕ) → j < c → Vecs n σ (answer n x j) (answer n y j)
 unfolding answer
 answer-m {n} {σ} {x} {y} c N P j h = vec-m n σ _ _ (λ i l. go i l (omega arith))
@@ -136,27 +130,15 @@ answer-m {n} {σ} {x} {y} c N P j h = vec-m n σ _ _ (λ i l. go i l (omega arit
     go : (i : ℕ) → i < n → i < 16 → Mirror (σ i) (x ! (16 * j + i)) (y ! (16 * j + i))
     go i l m =
         let p = 16 * j + i in
-        let u : slots c n p ≡ true = ap₂ (λ (a b : ℕ). ltb a c && ltb b n) (answer-row j i m) (answer-column j i m) ∙ ap₂ _&&_ (lt-ltb j c h) (lt-ltb i n l) in
-        m-sign (ap σ (answer-column j i m)) (subst (λ (b : Bool). At b (slot σ p) (x ! p) (y ! p)) u (P .at p))
+        let u : slots c n p ≡ true = ap₂ (λ (a b : ℕ). ltb a c && ltb b n) (slot-row 16 j i m) (slot-column 16 j i m) ∙ ap₂ _&&_ (lt-ltb j c h) (lt-ltb i n l) in
+        m-sign (ap σ (slot-column 16 j i m)) (subst (λ (b : Bool). At b (slot σ p) (x ! p) (y ! p)) u (P .at p))
 
--- what stands at a place that was stored
-stores-at : (g : ℕ → Float → Float) (b n : ℕ) (o : List Float) (j : ℕ) → j < n → b + j < length o → stores g b n o ! (b + j) ≡ g j (o ! (b + j))
-stores-at g b zero o j h r = absurd (not-suc-le-zero h)
-stores-at g b (suc n) o j h r = go (ℕ-discrete j n) (λ q. stores-at g b n o j q r)
-  where
-    go : Dec (j ≡ n) → (j < n → stores g b n o ! (b + j) ≡ g j (o ! (b + j))) → stores g b (suc n) o ! (b + j) ≡ g j (o ! (b + j))
-    go (yes e) ih =
-        let k : b + n < length (stores g b n o) = rw length-stores (omega arith) in
-        rw (e, stores-suc, getD-set-same, stores-out g b n o (b + n) (λ j q. omega arith))
-    go (no ne) ih =
-        let ne' : b + j ≢ b + n = omega arith in
-        rw (stores-suc, getD-set-other) (ih (omega arith))
-
+-- what stands at a place of an answer that was stored
 stored-at : (x r : List Float) (c p : ℕ) → p / 16 ≡ c → p < length r → stores (λ i _. x ! i) (16 * c) 16 r ! p ≡ x ! (p % 16)
 stored-at x r c p e h =
     let q : 16 * c + p % 16 ≡ p = omega arith in
     let l : 16 * c + p % 16 < length r = omega arith in
-    ap (λ (k : ℕ). stores (λ i _. x ! i) (16 * c) 16 r ! k) (sym q) ∙ stores-at (λ i _. x ! i) (16 * c) 16 r (p % 16) (omega arith) l
+    ap (λ (k : ℕ). stores (λ i _. x ! i) (16 * c) 16 r ! k) (sym q) ∙ stores-in (λ i _. x ! i) (16 * c) 16 r (p % 16) (omega arith) l
 
 other-at : (x r : List Float) (c p : ℕ) → p / 16 ≢ c → stores (λ i _. x ! i) (16 * c) 16 r ! p ≡ r ! p
 other-at x r c p ne = stores-out (λ i _. x ! i) (16 * c) 16 r p (λ j l. omega arith)

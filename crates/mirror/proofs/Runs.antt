@@ -3,14 +3,14 @@ use Prim.Native.Nat.{ℕ, _/_, _%_, _≤_, _<_}
 use native.Mathlib.Decide.{decLt}
 use native.Mathlib.Omega.{arith}
 use mathlib.Core.Path.{_≡_, refl, sym, ap, subst, subst₂}
-use mathlib.Core.Logic.{inl, inr}
 use mathlib.Core.Bool.{Bool, true, false, _&&_}
 use mathlib.Core.List.{List}
 use lib.Dec.{ltb, leb·suc-zero}
 use lib.Ieee.{Float, nan, inf, fin}
 use lib.ListN.{length}
 use Rattle.loops.specs.Loop.{tab, _!_}
-use Rattle.loops.proofs.Loops.{length-tab, tab-at}
+use Rattle.loops.proofs.Loops.{past-end, length-tab, tab-at}
+use Rattle.float.proofs.Signs.{false-unlike}
 use Rattle.session.specs.declared.Session.{Session}
 use Rattle.session.specs.declared.History.{History}
 use Rattle.session.specs.declared.History.the-variants.{Missing, Held}

@@ -8,6 +8,7 @@ use lib.Dec.{eqb}
 use lib.IntN.{pos}
 use lib.Ieee.{Float, binary64, ofInt}
 use Rattle.loops.specs.Loop.{_!_}
+use Rattle.float.proofs.Sums.{sum-ext, most-ext}
 use Rattle.float.specs.Arith.{_⊕_, _⊗_, _⊘_, zero+, finite, abs, larger, powi2}
 use Rattle.float.specs.Root.{sqrt}
 use Rattle.engine.specs.Engine.{ratio, errorNorm, rate, estimate, clamp, firstStep}
@@ -23,7 +24,7 @@ use Rattle.session.specs.Session.{good1, good2, good3, good4, good5, good7, pha
 use Rattle.session.specs.Calls.{opened, nothing, begun, rested, answered, moved}
 use Rattle.mirror.specs.Mirror.{within}
 use Rattle.mirror.proofs.Floats.{abs-m, div-m, square-m}
-use Rattle.mirror.proofs.Vectors.{Vecs, cross, sum-eq, most-eq}
+use Rattle.mirror.proofs.Vectors.{Vecs, cross}
 use Rattle.mirror.proofs.Passes.{points}
 use Rattle.mirror.proofs.Steps.{Progresses, refused-m, step-m}
 use Rattle.mirror.proofs.Places.{Placed, slots, slot, blank-m, finite-p, clear-p, clear-answers, vecs, mats, answer-m, store-m}
@@ -109,7 +110,7 @@ module _ {n : ℕ} {σ : ℕ → Bool} where
 
   pub norm-m : (rtol atol : Float) {u u' x x' e e' : List Float} → Vecs n σ u u' → Vecs n σ x x' → Vecs n σ e e' → errorNorm n rtol atol u x e ≡ errorNorm n rtol atol u' x' e'
   unfolding errorNorm
-  norm-m rtol atol U X E = ap (λ (z : Float). sqrt (z ⊘ ofInt binary64 (pos n))) (sum-eq n _ _ (ratio-m rtol atol U X E))
+  norm-m rtol atol U X E = ap (λ (z : Float). sqrt (z ⊘ ofInt binary64 (pos n))) (sum-ext n _ _ (ratio-m rtol atol U X E))
 
   rate-m : (rtol atol : Float) {u u' f f' : List Float} → Vecs n σ u u' → Vecs n σ f f' → (i : ℕ) → i < n → rate rtol atol u f i ≡ rate rtol atol u' f' i
   unfolding rate
@@ -118,7 +119,7 @@ module _ {n : ℕ} {σ : ℕ → Bool} where
 
   pub first-m : (rtol atol largest : Float) {u u' f f' : List Float} → Vecs n σ u u' → Vecs n σ f f' → firstStep n rtol atol u f largest ≡ firstStep n rtol atol u' f' largest
   unfolding firstStep
-  first-m rtol atol largest U F = ap (λ (z : Float). clamp (estimate z) largest) (most-eq n zero+ _ _ (rate-m rtol atol U F))
+  first-m rtol atol largest U F = ap (λ (z : Float). clamp (estimate z) largest) (most-ext n _ _ zero+ (rate-m rtol atol U F))
 
   -- ---- the attempt, as far as its answers go
   history-m : {w w' : List Float} (held : History) → Placed (within (usedHistory held n)) σ w w' → isHeld held ≡ true → Vecs n σ w w'

@@ -1,17 +1,17 @@
 -- Mirrored vectors and matrices, and the helpers on vectors. Assumes nothing.
-use Prim.Native.Nat.{ℕ, zero, suc, _+_, _-_, _*_, _/_, _%_, _≤_, _<_}
+use Prim.Native.Nat.{ℕ, zero, suc, _+_, _*_, _/_, _%_, _≤_, _<_}
 use native.Mathlib.Decide.{decLt}
 use native.Mathlib.Omega.{arith}
-use mathlib.Core.Path.{_≡_, refl, sym, ap, ap₂, _∙_, subst}
-use mathlib.Core.Bool.{Bool, true, false, _&&_}
-use mathlib.Core.List.{List, [], _∷_, _++_}
-use lib.Ieee.{Float, nan, unlike}
-use lib.ListN.{length, replicate, drop, length-append, List·getD-eq-default}
-use lib.Seq.{getD-append-add}
+use mathlib.Core.Path.{_≡_, refl, ap, ap₂, _∙_, subst}
+use mathlib.Core.Bool.{Bool}
+use mathlib.Core.List.{List, [], _∷_}
+use lib.Ieee.{Float, unlike}
+use lib.ListN.{length, replicate, drop, length-append}
 use Rattle.loops.specs.Loop.{iter, every, tab, mat, fill, _!_}
-use Rattle.loops.proofs.Loops.{length-tab, tab-at}
+use Rattle.loops.proofs.Loops.{every-ext, past-end, append-past, length-tab, tab-at}
 use Rattle.loops.proofs.Places.{row-below, column-below, place-row, place-column}
-use Rattle.float.specs.Arith.{_⊕_, zero+, finite, larger, sumOf, most}
+use Rattle.float.proofs.Signs.{inner1}
+use Rattle.float.specs.Arith.{_⊕_, zero+, finite, sumOf}
 use Rattle.evaluation.specs.Evaluation.{allFinite}
 use Rattle.matrix.specs.Matrix.{at}
 use Rattle.matrix.specs.Vector.{zeros, vec, matVec}
@@ -21,20 +21,11 @@ use Rattle.mirror.proofs.Floats.{Mirror, m-nan, add-m, sub-m, mul-m, mu
 
 -- ---- what stands where
 
-pub past-end : (x : List Float) (p : ℕ) → length x ≤ p → x ! p ≡ nan
-past-end x p h = List·getD-eq-default x nan h
-
 -- +0.0 or a NaN, and so mirrored by any sign
 pub blank-at : (m : ℕ) (s : Bool) (p : ℕ) → Mirror s (replicate m zero+ ! p) (replicate m zero+ ! p)
 blank-at zero s p = m-nan
 blank-at (suc m) s zero = zero-m s
 blank-at (suc m) s (suc p) = blank-at m s p
-
-append-past : (x x' z : List Float) (i : ℕ) → length x ≡ length x' → length x ≤ i → (x ++ z) ! i ≡ (x' ++ z) ! i
-append-past x x' z i e h =
-    let a : length x + (i - length x) ≡ i = omega arith in
-    let b : length x' + (i - length x) ≡ i = omega arith in
-    ap (λ (k : ℕ). (x ++ z) ! k) (sym a) ∙ getD-append-add x z (i - length x) nan ∙ sym (getD-append-add x' z (i - length x) nan) ∙ ap (λ (k : ℕ). (x' ++ z) ! k) b
 
 -- two lists by their entries, mirrored at every place
 pub tab-mirror : (k k' : ℕ) (s : ℕ → Bool) (f g : ℕ → Float) → k ≡ k' → ((p : ℕ) → p < k → Mirror (s p) (f p) (g p)) → (p : ℕ) → Mirror (s p) (tab k f ! p) (tab k' g ! p)
@@ -102,40 +93,6 @@ sum-m s zero f g p = zero-m s
 sum-m s (suc zero) f g p = p 0 (omega arith)
 sum-m s (suc (suc n)) f g p = add-m (sum-m s (suc n) f g (λ k h. p k (step (suc n) k h))) (p (suc n) (omega arith))
 
--- the same of values that are equal
-pub sum-eq : (n : ℕ) (f g : ℕ → Float) → ((k : ℕ) → k < n → f k ≡ g k) → sumOf n f ≡ sumOf n g
-unfolding sumOf
-sum-eq zero f g p = refl
-sum-eq (suc zero) f g p = p 0 (omega arith)
-sum-eq (suc (suc n)) f g p = ap₂ _⊕_ (sum-eq (suc n) f g (λ k h. p k (step (suc n) k h))) (p (suc n) (omega arith))
-
-pub most-eq : (n : ℕ) (x : Float) (f g : ℕ → Float) → ((k : ℕ) → k < n → f k ≡ g k) → most n f x ≡ most n g x
-unfolding most
-most-eq zero x f g p = refl
-most-eq (suc n) x f g p = ap₂ larger (most-eq n x f g (λ k h. p k (step n k h))) (p n (omega arith))
-
-pub every-eq : (n : ℕ) (f g : ℕ → Bool) → ((k : ℕ) → k < n → f k ≡ g k) → every n f ≡ every n g
-unfolding every
-every-eq zero f g p = refl
-every-eq (suc n) f g p = ap₂ _&&_ (every-eq n f g (λ k h. p k (step n k h))) (p n (omega arith))
-
--- the sign of a product whose inner index cancels
-pub inner : (s t u : Bool) → unlike (unlike s t) (unlike t u) ≡ unlike s u
-inner true true true = refl
-inner true true false = refl
-inner true false true = refl
-inner true false false = refl
-inner false true true = refl
-inner false true false = refl
-inner false false true = refl
-inner false false false = refl
-
-inner1 : (s t : Bool) → unlike (unlike s t) t ≡ s
-inner1 true true = refl
-inner1 true false = refl
-inner1 false true = refl
-inner1 false false = refl
-
 -- ---- the helpers
 -- a list of terms with the same coefficients
 pub data Terms (n : ℕ) (σ : ℕ → Bool) : List (Float × List Float) → List (Float × List Float) → Type 0 where
@@ -186,4 +143,4 @@ module _ {n : ℕ} {σ : ℕ → Bool} where
 
   pub allFinite-m : {x x' : List Float} → Vecs n σ x x' → allFinite x ≡ allFinite x'
   unfolding allFinite
-  allFinite-m {x} {x'} X = every-eq (length x) _ _ (λ i h. finite-at X i) ∙ ap (λ (k : ℕ). every k (λ i. finite (x' ! i))) (X .size)
+  allFinite-m {x} {x'} X = every-ext (length x) _ _ (λ i h. finite-at X i) ∙ ap (λ (k : ℕ). every k (λ i. finite (x' ! i))) (X .size)

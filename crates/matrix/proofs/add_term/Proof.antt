@@ -8,7 +8,7 @@ use Rattle.loops.proofs.Loops.{stores-none}
 use Rattle.float.specs.Arith.{_⊕_, _⊘_, zero+, one, abs, most}
 use Rattle.float.proofs.Sums.{most-none}
 use Rattle.matrix.proofs.Series.{term-step, sum-added, big-step, top-step, added}
-use Rattle.matrix.proofs.Sizes.{is-number, zero-number, one-number}
+use Rattle.float.proofs.Order.{is-number, zero-number, one-number}
 use Rattle.matrix.proofs.add_term.Statement.{statement}
 use Rattle.matrix.proofs.add_term.Tie as tie
 
@@ -47,14 +47,14 @@ mul-sum c = omega arith
 slice-write-sum : tie.Need-slice-write-sum Inv-loop μ-loop
 slice-write-sum c = omega arith
 
-magnitude-requires : tie.Need-magnitude-requires Inv-loop μ-loop
-magnitude-requires c κs = omega arith
+abs-requires : tie.Need-abs-requires Inv-loop μ-loop
+abs-requires c κs = omega arith
 
 raise-requires : tie.Need-raise-requires Inv-loop μ-loop
 raise-requires c κs = is-number _ _ _ _ zero-number (c .before .before .before .before .loop .inv .6)
 
-magnitude-requires-2 : tie.Need-magnitude-requires-2 Inv-loop μ-loop
-magnitude-requires-2 c κs = omega arith
+abs-requires-2 : tie.Need-abs-requires-2 Inv-loop μ-loop
+abs-requires-2 c κs = omega arith
 
 raise-requires-2 : tie.Need-raise-requires-2 Inv-loop μ-loop
 raise-requires-2 c κs = is-number _ _ _ _ one-number (c .before .before .before .before .before .before .loop .inv .7)
@@ -66,16 +66,17 @@ loop-less : tie.Need-loop-less Inv-loop μ-loop
 loop-less c = omega arith
 
 loop-again : tie.Need-loop-again Inv-loop μ-loop
-loop-again c = (
-  omega arith,
-  omega arith,
-  simp length-set (omega arith),
-  simp length-set (omega arith),
-  term-step _ _ _ _ _ _ (c .before .before .before .before .before .before .before .loop .inv .4) (c .before .before .before .before .before .before .before .loop .inv .5),
-  sum-added _ _ _ _ _ _ (c .before .before .before .before .before .before .before .loop .inv .4) (c .before .before .before .before .before .before .before .loop .inv .5),
-  big-step _ _ _ _ _ _ (c .before .before .before .before .before .before .before .loop .inv .4) (c .before .before .before .before .before .before .before .loop .inv .5) _ _ _ _ (c .before .before .before .before .before .before .before .loop .inv .6) (c .before .before .before .magnitude .ensures) (c .before .before .raise .ensures),
-  top-step _ _ _ _ _ _ (c .before .before .before .before .before .before .before .loop .inv .4) (c .before .before .before .before .before .before .before .loop .inv .5) _ _ _ _ (c .before .before .before .before .before .before .before .loop .inv .7) (c .before .magnitude2 .ensures) (c .raise2 .ensures),
-)
+loop-again c =
+    let inv = c .before .before .before .before .before .before .before .loop .inv in (
+      omega arith,
+      omega arith,
+      simp length-set (omega arith),
+      simp length-set (omega arith),
+      term-step _ _ _ _ _ _ (inv .4) (inv .5),
+      sum-added _ _ _ _ _ _ (inv .4) (inv .5),
+      big-step _ _ _ _ _ _ (inv .4) (inv .5) _ _ _ _ (inv .6) (c .before .before .before .abs .ensures) (c .before .before .raise .ensures),
+      top-step _ _ _ _ _ _ (inv .4) (inv .5) _ _ _ _ (inv .7) (c .before .abs2 .ensures) (c .raise2 .ensures),
+    )
 
 same-length : tie.Need-same-length Inv-loop μ-loop
 same-length c = omega arith
@@ -101,9 +102,9 @@ add-term-spec =
     slice-write-term
     mul-sum
     slice-write-sum
-    magnitude-requires
+    abs-requires
     raise-requires
-    magnitude-requires-2
+    abs-requires-2
     raise-requires-2
     add-p
     loop-less

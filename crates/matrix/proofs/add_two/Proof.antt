@@ -7,7 +7,6 @@ use Rattle.loops.specs.Loop.{stores, _!_}
 use Rattle.loops.proofs.Loops.{stores-none, stores-step, stores-end}
 use Rattle.float.specs.Arith.{_⊕_, _⊗_}
 use Rattle.matrix.specs.Matrix.{at}
-use Rattle.matrix.proofs.Sizes.{second}
 use Rattle.matrix.proofs.add_two.Statement.{statement}
 use Rattle.matrix.proofs.add_two.Tie as tie
 

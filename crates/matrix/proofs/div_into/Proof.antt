@@ -6,7 +6,7 @@ use lib.ListN.{length, length-set}
 use Rattle.loops.specs.Loop.{stores, _!_}
 use Rattle.loops.proofs.Loops.{stores-none, stores-step0}
 use Rattle.float.specs.Arith.{_⊘_}
-use Rattle.matrix.proofs.Runs.{run-to}
+use Rattle.loops.proofs.Stores.{run-to}
 use Rattle.matrix.specs.Matrix.{divAll}
 use Rattle.matrix.proofs.div_into.Statement.{statement}
 use Rattle.matrix.proofs.div_into.Tie as tie

@@ -4,7 +4,7 @@ use mathlib.Core.Path.{_≡_}
 use native.Mathlib.Omega.{arith}
 use lib.ListN.{length, length-set}
 use Rattle.loops.specs.Loop.{stores}
-use Rattle.matrix.proofs.Runs.{rows-none}
+use Rattle.loops.proofs.Stores.{rows-none}
 use Rattle.matrix.proofs.Products.{diagonal, identity-step, identity-end}
 use Rattle.matrix.proofs.identity.Statement.{statement}
 use Rattle.matrix.proofs.identity.Tie as tie

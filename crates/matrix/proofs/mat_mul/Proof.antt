@@ -4,7 +4,7 @@ use mathlib.Core.Path.{_≡_}
 use native.Mathlib.Omega.{arith}
 use lib.ListN.{length}
 use Rattle.loops.specs.Loop.{stores}
-use Rattle.matrix.proofs.Runs.{rows-none}
+use Rattle.loops.proofs.Stores.{rows-none}
 use Rattle.matrix.proofs.Products.{entry, product-step, product-end}
 use Rattle.matrix.proofs.mat_mul.Statement.{statement}
 use Rattle.matrix.proofs.mat_mul.Tie as tie

@@ -1,4 +1,4 @@
--- `matrix::row_sum` meets its contract: the sum has the first magnitudes. Assumes nothing.
+-- `matrix::row_sum` meets its contract: the sum has the first abss. Assumes nothing.
 use Prim.Native.Nat.{_-_, _≤_}
 use mathlib.Core.Path.{_≡_}
 use native.Mathlib.Omega.{arith}
@@ -21,29 +21,29 @@ row-start-requires c κs = omega arith
 sub-last : tie.Need-sub-last Inv-loop μ-loop
 sub-last c = omega arith
 
-mul-magnitude : tie.Need-mul-magnitude Inv-loop μ-loop
-mul-magnitude c = omega arith
+mul-abs : tie.Need-mul-abs Inv-loop μ-loop
+mul-abs c = omega arith
 
-shared-slice-read-magnitude : tie.Need-shared-slice-read-magnitude Inv-loop μ-loop
-shared-slice-read-magnitude c = omega arith
+shared-slice-read-abs : tie.Need-shared-slice-read-abs Inv-loop μ-loop
+shared-slice-read-abs c = omega arith
 
-magnitude-requires : tie.Need-magnitude-requires Inv-loop μ-loop
-magnitude-requires c κs = omega arith
+abs-requires : tie.Need-abs-requires Inv-loop μ-loop
+abs-requires c κs = omega arith
 
 loop-holds : tie.Need-loop-holds Inv-loop μ-loop
-loop-holds c = (omega arith, omega arith, sum-first _ _ (rw (add-zero, ← c .before .before .row-start .ensures .0) (c .magnitude .ensures)))
+loop-holds c = (omega arith, omega arith, sum-first _ _ (rw (add-zero, ← c .before .before .row-start .ensures .0) (c .abs .ensures)))
 
-add-magnitude : tie.Need-add-magnitude Inv-loop μ-loop
-add-magnitude c = omega arith
+add-abs : tie.Need-add-abs Inv-loop μ-loop
+add-abs c = omega arith
 
-mul-magnitude-2 : tie.Need-mul-magnitude-2 Inv-loop μ-loop
-mul-magnitude-2 c = omega arith
+mul-abs-2 : tie.Need-mul-abs-2 Inv-loop μ-loop
+mul-abs-2 c = omega arith
 
-shared-slice-read-magnitude-2 : tie.Need-shared-slice-read-magnitude-2 Inv-loop μ-loop
-shared-slice-read-magnitude-2 c = omega arith
+shared-slice-read-abs-2 : tie.Need-shared-slice-read-abs-2 Inv-loop μ-loop
+shared-slice-read-abs-2 c = omega arith
 
-magnitude-requires-2 : tie.Need-magnitude-requires-2 Inv-loop μ-loop
-magnitude-requires-2 c κs = omega arith
+abs-requires-2 : tie.Need-abs-requires-2 Inv-loop μ-loop
+abs-requires-2 c κs = omega arith
 
 add-column : tie.Need-add-column Inv-loop μ-loop
 add-column c = omega arith
@@ -55,7 +55,7 @@ loop-again : tie.Need-loop-again Inv-loop μ-loop
 loop-again c =
     let at-loop = c .before .before .before in
     let at-row-start = at-loop .before .before .before in
-    (omega arith, omega arith, sum-step _ _ _ _ (at-loop .loop .inv .2) (rw (← at-row-start .row-start .ensures .0) (c .magnitude2 .ensures)) (omega arith))
+    (omega arith, omega arith, sum-step _ _ _ _ (at-loop .loop .inv .2) (rw (← at-row-start .row-start .ensures .0) (c .abs2 .ensures)) (omega arith))
 
 returns : tie.Need-returns Inv-loop μ-loop
 unfolding rowSum
@@ -69,14 +69,14 @@ row-sum-spec =
     μ-loop
     row-start-requires
     sub-last
-    mul-magnitude
-    shared-slice-read-magnitude
-    magnitude-requires
+    mul-abs
+    shared-slice-read-abs
+    abs-requires
     loop-holds
-    add-magnitude
-    mul-magnitude-2
-    shared-slice-read-magnitude-2
-    magnitude-requires-2
+    add-abs
+    mul-abs-2
+    shared-slice-read-abs-2
+    abs-requires-2
     add-column
     loop-less
     loop-again
