@@ -12,8 +12,10 @@ use Rattle.engine.specs.Engine.{jacobianEntry}
 use Rattle.session.specs.declared.Session.{Session}
 use Rattle.session.specs.declared.Told.{Told}
 use Rattle.session.specs.declared.Answer.the-variants.{Ask, Ready, FirstStep, Norm, Refused}
+use Rattle.session.specs.declared.History.{History}
 use Rattle.session.specs.declared.History.the-variants.{Missing, Held}
 use Rattle.session.specs.declared.Wish.the-variants.{Given, Difference}
+use Rattle.session.specs.Session.{Run}
 use Rattle.session.specs.Calls.{Outcome, openCall, beginCall, supplyCall, firstStepCall}
 use Rattle.session.specs.Bare.{exponentialCall, normCall}
 
@@ -26,12 +28,26 @@ only x = x ∷ replicate 15 zero+
 unfoldable pub lent : List Float
 lent = zero+ ∷ []
 
+-- a run at u with the derivative f0, of a scheme, a dimension and a relative tolerance, with a history or without
+unfoldable pub running : ℕ → ℕ → Float → Float → Float → History → List Float → Run
+running scheme n relative u f0 history previous = record {
+  scheme = scheme;
+  n = n;
+  time = zero+;
+  state = only u;
+  derivative = only f0;
+  relative = relative;
+  absolute = num 1;
+  history = history;
+  previous = previous;
+}
+
 -- a scheme opened at u with the derivative f0, with and without a history
 unfoldable pub resting : ℕ → Float → Float → Told
-resting scheme u f0 = openCall scheme 1 zero+ (only u) (only f0) (num 1) (num 1) Missing (replicate 16 zero+)
+resting scheme u f0 = openCall (running scheme 1 (num 1) u f0 Missing (replicate 16 zero+))
 
 unfoldable pub remembering : ℕ → Float → Float → Float → Told
-remembering scheme u f0 previous = openCall scheme 1 zero+ (only u) (only f0) (num 1) (num 1) Held (only previous)
+remembering scheme u f0 previous = openCall (running scheme 1 (num 1) u f0 Held (only previous))
 
 -- then a step h begun with the Jacobian [j]
 unfoldable pub begins : Told → Float → Float → Outcome
@@ -114,13 +130,13 @@ pub record Examples : Type 0 where
   -- 'First step: tolerances 1 and 1, largest 0.005, gives 0.005'
   pub firstStep : firstStepCall (resting NorsettEuler (num 1) (num 2) .session) (decimal 5 3) .answer ≡ FirstStep (decimal 5 3)
   -- the table's 'open with n = 17'
-  pub refused-1 : openCall NorsettEuler 17 zero+ (only (num 1)) (only (num 2)) (num 1) (num 1) Missing (replicate 16 zero+) .answer ≡ Refused 1
+  pub refused-1 : openCall (running NorsettEuler 17 (num 1) (num 1) (num 2) Missing (replicate 16 zero+)) .answer ≡ Refused 1
   -- 'scheme 16'
   pub refused-2 : resting 16 (num 1) (num 2) .answer ≡ Refused 2
   -- 'supply with a NaN'
   pub refused-3 : supplies (begins (resting Exprb32 (num 1) (num 2)) zero+ (num 1)) nan .told .answer ≡ Refused 3
   -- 'relative tolerance 0'
-  pub refused-4 : openCall NorsettEuler 1 zero+ (only (num 1)) (only (num 2)) zero+ (num 1) Missing (replicate 16 zero+) .answer ≡ Refused 4
+  pub refused-4 : openCall (running NorsettEuler 1 zero+ (num 1) (num 2) Missing (replicate 16 zero+)) .answer ≡ Refused 4
   -- 'step 0'
   pub refused-5 : begins (resting NorsettEuler (num 1) (num 2)) zero+ zero+ .told .answer ≡ Refused 5
   -- 'n = 1, J = [2^40], step 1'

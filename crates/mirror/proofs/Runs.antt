@@ -17,13 +17,15 @@ use Rattle.session.specs.declared.History.the-variants.{Missing, Held}
 use Rattle.session.specs.declared.Attempt.{Attempt}
 use Rattle.session.specs.declared.Attempt.the-variants.{None, Supplied, Differenced}
 use Rattle.session.specs.declared.Wish.the-variants.{Given, Difference}
-use Rattle.session.specs.Session.{usedHistory, usedJacobian}
-use Rattle.session.specs.Calls.{Outcome, nothing, opened}
-use Rattle.mirror.specs.Mirror.{Opening, Call, perform, opening, run, flip, flipped, inHistory, inWish, inJacobian, inAnswers, flippedOpening, FlippedCall, begins, supplies, accepts, drops, firstSteps, FlippedCalls, no-call, and-call, isRefused, wishesDifference, Undifferenced, Zero, Agrees, Alike, Mirrored, SameOutcome, SameOutcomes, no-outcome, and-outcome, MirroredRuns}
+use Rattle.session.specs.Values.{isRefused}
+use Rattle.session.specs.Session.{Run, Trial, idle, fresh, usedHistory, usedJacobian, inAnswers}
+use Rattle.session.specs.Calls.{Outcome, nothing, opened, attemptOf}
+use Rattle.session.specs.Runs.{Call, perform, opening, run}
+use Rattle.mirror.specs.Mirror.{flip, flipped, flippedOpening, FlippedCall, begins, supplies, accepts, drops, firstSteps, FlippedCalls, no-call, and-call, wishesDifference, Undifferenced, Zero, Agrees, Alike, MirroredRun, MirroredTrial, Mirrored, SameOutcome, SameOutcomes, no-outcome, and-outcome, MirroredRuns}
 use Rattle.mirror.proofs.Floats.{Mirror, m-nan, m-inf, m-fin, m-zero, m-flip, agrees, false-unlike}
 use Rattle.mirror.proofs.Vectors.{past-end}
 use Rattle.mirror.proofs.Places.{At, at-nan, Placed, in-use, blank-m}
-use Rattle.mirror.proofs.Sessions.{live, Sessions, void, alive}
+use Rattle.mirror.proofs.Sessions.{Runs, run-m, Trials, trial-m, live, Sessions, void, alive, idle-m}
 use Rattle.mirror.proofs.Calls.{Outcomes, bare-m, begin-m, difference-m, supply-m, accept-m, drop-m, firstStep-m, begin-void, supply-void, accept-void, drop-void, firstStep-void, open-m}
 
 -- ---- the flips
@@ -51,47 +53,27 @@ flipped-m used turned x = record { size = sym (length-tab (length x) turn); at =
         let k' : length (tab (length x) turn) ≤ p = rw length-tab k in
         subst₂ (λ (y z : Float). At (used p) (turned p) y z) (sym (past-end x p k)) (sym (past-end (tab (length x) turn) p k')) (at-nan (used p) (turned p))
 
--- the places in use, as the tests and as the statement count them
-history-places : (held : History) (n p : ℕ) → inHistory held n p ≡ ltb p (usedHistory held n)
-unfolding inHistory usedHistory
-history-places Missing n p = sym (leb·suc-zero p)
-history-places Held n p = refl
-
-jacobian-places : (a : Attempt) (n p : ℕ) → ltb p (usedJacobian a n) ≡ inJacobian a n p
-unfolding inJacobian usedJacobian
-jacobian-places None n p = leb·suc-zero p
-jacobian-places Supplied n p = refl
-jacobian-places Differenced n p = leb·suc-zero p
-
-given-places : (n p : ℕ) → inWish Given n p ≡ ltb p (usedJacobian Supplied n)
-unfolding inWish usedJacobian
-given-places n p = refl
-
-difference-places : (n p : ℕ) → inWish Difference n p ≡ ltb p (usedJacobian Differenced n)
-unfolding inWish usedJacobian
-difference-places n p = sym (leb·suc-zero p)
-
 -- ---- one call
 call-m : {n : ℕ} {turned : ℕ → Bool} {c c' : Call} {s s' : Session} → FlippedCall n turned c c' → Sessions n turned s s'
     → (wishesDifference c ≡ true → isRefused (perform c s .told .answer) ≡ true) → (wishesDifference c' ≡ true → isRefused (perform c' s' .told .answer) ≡ true)
     → Outcomes n turned (perform c s) (perform c' s')
-unfolding perform wishesDifference
+unfolding perform wishesDifference attemptOf
 call-m (begins h w j o o' e) void q q' = begin-void h w w j _ o o'
 call-m (supplies x o o' e) void q q' = supply-void x _ o o'
 call-m (accepts x) void q q' = bare-m (accept-void x _)
 call-m drops void q q' = bare-m drop-void
 call-m (firstSteps z) void q q' = bare-m (firstStep-void z)
-call-m {n} {turned} (begins h Given j o o' e) (alive S) q q' = begin-m o o' h e S (in-use (given-places n) (flipped-m _ _ j))
-call-m {n} {turned} (begins h Difference j o o' e) (alive S) q q' = difference-m o o' h e S (in-use (difference-places n) (flipped-m _ _ j)) (q refl) (q' refl)
+call-m {n} {turned} (begins h Given j o o' e) (alive S) q q' = begin-m o o' h e S (flipped-m _ _ j)
+call-m {n} {turned} (begins h Difference j o o' e) (alive S) q q' = difference-m o o' h e S (flipped-m _ _ j) (q refl) (q' refl)
 call-m (supplies x o o' e) (alive S) q q' = supply-m o o' e S (flipped-m _ _ x)
 call-m (accepts x) (alive S) q q' = bare-m (accept-m S (flipped-m _ _ x))
 call-m drops (alive S) q q' = bare-m (drop-m S)
 call-m (firstSteps z) (alive S) q q' = bare-m (firstStep-m z S)
 
-opening-m : (turned : ℕ → Bool) (o : Opening) → Outcomes (o .n) turned (opening o) (opening (flippedOpening turned o))
+opening-m : (turned : ℕ → Bool) (o : Run) → Outcomes (o .n) turned (opening o) (opening (flippedOpening turned o))
 unfolding opening flippedOpening
 opening-m turned o =
-    bare-m (open-m (o .scheme) (o .time) (o .relative) (o .absolute) (o .history) (flipped-m _ _ (o .state)) (flipped-m _ _ (o .derivative)) (in-use (history-places (o .history) (o .n)) (flipped-m _ _ (o .previous))))
+    bare-m (open-m (run-m (o .scheme) (o .time) (o .relative) (o .absolute) (o .history) (flipped-m _ _ (o .state)) (flipped-m _ _ (o .derivative)) (flipped-m _ _ (o .previous))))
 
 -- ---- what the relations say
 alike : {used turned : ℕ → Bool} {x y : List Float} → Placed used turned x y → Alike used turned x y
@@ -101,54 +83,49 @@ alike {used} {turned} {x} {y} P = record {
   other = λ p h e. subst (λ (b : Bool). At b (turned p) (x ! p) (y ! p)) e (P .at p);
 }
 
-answers-places : (c n p : ℕ) → (ltb (p / 16) c && ltb (p % 16) n) ≡ inAnswers c n p
-unfolding inAnswers
-answers-places c n p = refl
+run-mirrored : {n : ℕ} {turned : ℕ → Bool} {r r' : Run} → Runs n turned r r' → MirroredRun n turned r r'
+run-mirrored (run-m k t rtol atol held U F W) = record {
+  scheme = refl;
+  size = refl;
+  time = refl;
+  relative = refl;
+  absolute = refl;
+  history = refl;
+  state = alike U;
+  derivative = alike F;
+  previous = alike W;
+}
+
+trial-mirrored : {n : ℕ} {turned : ℕ → Bool} {q q' : Trial} → Trials n turned q q' → MirroredTrial n turned q q'
+trial-mirrored (trial-m h a c D J R) = record { attempt = refl; step = refl; count = refl; jacobian = alike J; answers = alike R }
 
 mirrored : {n : ℕ} {turned : ℕ → Bool} {s s' : Session} → Sessions n turned s s' → Mirrored n turned s s'
 mirrored {n} {turned} void = unfold nothing opened in record {
-  scheme = refl;
-  size = refl;
-  time = refl;
-  relative = refl;
-  absolute = refl;
-  history = refl;
-  attempt = refl;
-  step = refl;
-  count = refl;
-  state = alike (blank-m _ _ 16);
-  derivative = alike (blank-m _ _ 16);
-  previous = alike (blank-m _ _ 16);
-  jacobian = alike (blank-m _ _ 256);
-  answers = alike (blank-m _ _ 320);
+  run = record {
+    scheme = refl;
+    size = refl;
+    time = refl;
+    relative = refl;
+    absolute = refl;
+    history = refl;
+    state = alike (blank-m _ _ 16);
+    derivative = alike (blank-m _ _ 16);
+    previous = alike (blank-m _ _ 16);
+  };
+  trial = trial-mirrored idle-m;
 }
-mirrored {n} {turned} (alive (live k t rtol atol h held a c N D U F W J R)) = record {
-  scheme = refl;
-  size = refl;
-  time = refl;
-  relative = refl;
-  absolute = refl;
-  history = refl;
-  attempt = refl;
-  step = refl;
-  count = refl;
-  state = alike U;
-  derivative = alike F;
-  previous = alike (in-use (λ p. sym (history-places held n p)) W);
-  jacobian = alike (in-use (jacobian-places a n) J);
-  answers = alike (in-use (answers-places c n) R);
-}
+mirrored (alive (live N R T)) = record { run = run-mirrored R; trial = trial-mirrored T }
 
 same : {n : ℕ} {turned : ℕ → Bool} {r r' : Outcome} → Outcomes n turned r r' → SameOutcome n turned r r'
 same R = record { answer = R .tolds .answers; session = mirrored (R .tolds .sessions); written = λ e. alike (R .outs e) }
 
 -- ---- the list
-run-m : {n : ℕ} {turned : ℕ → Bool} {cs cs' : List Call} {s s' : Session} → FlippedCalls n turned cs cs' → Sessions n turned s s' → Undifferenced s cs → Undifferenced s' cs'
+list-m : {n : ℕ} {turned : ℕ → Bool} {cs cs' : List Call} {s s' : Session} → FlippedCalls n turned cs cs' → Sessions n turned s s' → Undifferenced s cs → Undifferenced s' cs'
     → SameOutcomes n turned (run s cs) (run s' cs')
 unfolding run Undifferenced
-run-m no-call S q q' = no-outcome
-run-m (and-call C L) S q q' = let R = call-m C S (q .0) (q' .0) in and-outcome (same R) (run-m L (R .tolds .sessions) (q .1) (q' .1))
+list-m no-call S q q' = no-outcome
+list-m (and-call C L) S q q' = let R = call-m C S (q .0) (q' .0) in and-outcome (same R) (list-m L (R .tolds .sessions) (q .1) (q' .1))
 
 pub mirrored-runs : MirroredRuns
 unfolding MirroredRuns
-mirrored-runs turned o cs cs' L q q' = let R = opening-m turned o in and-outcome (same R) (run-m L (R .tolds .sessions) q q')
+mirrored-runs turned o cs cs' L q q' = let R = opening-m turned o in and-outcome (same R) (list-m L (R .tolds .sessions) q q')

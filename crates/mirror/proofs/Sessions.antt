@@ -16,7 +16,10 @@ use Rattle.session.specs.declared.History.{History}
 use Rattle.session.specs.declared.History.the-variants.{Missing, Held}
 use Rattle.session.specs.declared.Attempt.{Attempt}
 use Rattle.session.specs.declared.Attempt.the-variants.{None, Supplied, Differenced}
-use Rattle.session.specs.Session.{usedHistory, usedJacobian, sizeOk, stepClear, runPlaces, attemptPlaces, good1, good2, good3, good4, good5, good7, fault, isHeld, pointOf, progressOf, progress}
+use Rattle.session.specs.declared.Wants.{Wants}
+use Rattle.session.specs.Tests.{fault}
+use Rattle.session.specs.Session.{Run, Trial, joined, fresh, idle, usedHistory, usedJacobian, sizeOk, stepClear, runPlaces, attemptPlaces}
+use Rattle.session.specs.Session.{good1, good2, good3, good4, good5, good7, phaseOf, sessionTests, isHeld, pointOf, progressOf, progress}
 use Rattle.session.specs.Calls.{opened, nothing, begun, rested, answered, moved}
 use Rattle.mirror.specs.Mirror.{within}
 use Rattle.mirror.proofs.Floats.{abs-m, div-m, square-m}
@@ -30,13 +33,26 @@ isDifferenced None = false
 isDifferenced Supplied = false
 isDifferenced Differenced = true
 
--- two sessions that are not refused by 1 for their dimension, with no Jacobian differenced
+-- ---- two runs, two attempts, two sessions
+
+pub data Runs (n : ℕ) (σ : ℕ → Bool) : Run → Run → Type 0 where
+  run-m : (k : ℕ) (t rtol atol : Float) (held : History) {u u' f f' w w' : List Float}
+      → Placed (within n) σ u u' → Placed (within n) σ f f' → Placed (within (usedHistory held n)) σ w w'
+      → Runs n σ
+      (record { scheme = k; n = n; time = t; state = u; derivative = f; relative = rtol; absolute = atol; history = held; previous = w })
+      (record { scheme = k; n = n; time = t; state = u'; derivative = f'; relative = rtol; absolute = atol; history = held; previous = w' })
+
+-- no Jacobian is differenced
+pub data Trials (n : ℕ) (σ : ℕ → Bool) : Trial → Trial → Type 0 where
+  trial-m : (h : Float) (a : Attempt) (c : ℕ) {j j' r r' : List Float} → isDifferenced a ≡ false
+      → Placed (within (usedJacobian a n)) (cross n σ) j j' → Placed (slots c n) (slot σ) r r'
+      → Trials n σ
+      (record { attempt = a; step = h; jacobian = j; count = c; answers = r })
+      (record { attempt = a; step = h; jacobian = j'; count = c; answers = r' })
+
+-- two sessions that are not refused by 1 for their dimension
 pub data Lives (n : ℕ) (σ : ℕ → Bool) : Session → Session → Type 0 where
-  live : (k : ℕ) (t rtol atol h : Float) (held : History) (a : Attempt) (c : ℕ) {u u' f f' w w' j j' r r' : List Float} → n ≤ 16 → isDifferenced a ≡ false
-      → Placed (within n) σ u u' → Placed (within n) σ f f' → Placed (within (usedHistory held n)) σ w w' → Placed (within (usedJacobian a n)) (cross n σ) j j' → Placed (slots c n) (slot σ) r r'
-      → Lives n σ
-      (record { scheme = k; n = n; time = t; state = u; derivative = f; relative = rtol; absolute = atol; history = held; previous = w; attempt = a; step = h; jacobian = j; count = c; answers = r })
-      (record { scheme = k; n = n; time = t; state = u'; derivative = f'; relative = rtol; absolute = atol; history = held; previous = w'; attempt = a; step = h; jacobian = j'; count = c; answers = r' })
+  live : {r r' : Run} {q q' : Trial} → n ≤ 16 → Runs n σ r r' → Trials n σ q q' → Lives n σ (joined r q) (joined r' q')
 
 pub data Sessions (n : ℕ) (σ : ℕ → Bool) : Session → Session → Type 0 where
   -- what a refused open gave back
@@ -54,33 +70,34 @@ kept-m n σ held false W G = W
 module _ {n : ℕ} {σ : ℕ → Bool} where
   good1-m : {s s' : Session} → Lives n σ s s' → good1 s ≡ good1 s'
   unfolding good1 runPlaces attemptPlaces
-  good1-m (live k t rtol atol h held a c N D U F W J R) =
+  good1-m (live N (run-m k t rtol atol held U F W) (trial-m h a c D J R)) =
       λ i. cond (sizeOk n)
       ((clear-p n U i && clear-p n F i && clear-p (usedHistory held n) W i) && (stepClear a h && clear-p (usedJacobian a n) J i && clear-answers c n R i))
       false
 
   good2-m : {s s' : Session} → Lives n σ s s' → good2 s ≡ good2 s'
   unfolding good2
-  good2-m (live k t rtol atol h held a c N D U F W J R) = refl
+  good2-m (live N (run-m k t rtol atol held U F W) (trial-m h a c D J R)) = refl
 
-  good7-m : {s s' : Session} (phase : _) → Lives n σ s s' → good7 phase s ≡ good7 phase s'
-  unfolding good7
-  good7-m phase (live k t rtol atol h held a c N D U F W J R) = refl
+  good7-m : {s s' : Session} (wants : Wants) → Lives n σ s s' → good7 wants s ≡ good7 wants s'
+  unfolding good7 phaseOf
+  good7-m wants (live N (run-m k t rtol atol held U F W) (trial-m h a c D J R)) = refl
 
   good4-m : {s s' : Session} → Lives n σ s s' → good4 s ≡ good4 s'
   unfolding good4
-  good4-m (live k t rtol atol h held a c N D U F W J R) = refl
+  good4-m (live N (run-m k t rtol atol held U F W) (trial-m h a c D J R)) = refl
 
   good5-m : {s s' : Session} → Lives n σ s s' → good5 (s .attempt) (s .step) ≡ good5 (s' .attempt) (s' .step)
-  good5-m (live k t rtol atol h held a c N D U F W J R) = refl
+  good5-m (live N (run-m k t rtol atol held U F W) (trial-m h a c D J R)) = refl
 
   good3-m : {s s' : Session} → Lives n σ s s' → good3 s ≡ good3 s'
   unfolding good3
-  good3-m (live k t rtol atol h held a c N D U F W J R) = λ i. finite t && finite-p U i && finite-p F i && finite-p W i && finite-p J i && finite-p R i
+  good3-m (live N (run-m k t rtol atol held U F W) (trial-m h a c D J R)) =
+      λ i. finite t && finite-p U i && finite-p F i && finite-p W i && finite-p J i && finite-p R i
 
-  pub fault-m : {s s' : Session} (phase : _) → Lives n σ s s' → fault phase s ≡ fault phase s'
-  unfolding fault
-  fault-m phase S = λ i. cond (good1-m S i) (cond (good2-m S i) (cond (good7-m phase S i) (cond (good4-m S i) (cond (good5-m S i) (cond (good3-m S i) 0 3) 5) 4) 7) 2) 1
+  pub tests-m : {s s' : Session} (wants : Wants) → Lives n σ s s' → sessionTests wants s ≡ sessionTests wants s'
+  unfolding sessionTests
+  tests-m wants S = rw (good1-m S, good2-m S, good7-m wants S, good4-m S, good5-m S, good3-m S)
 
   -- ---- figures
   ratio-m : (rtol atol : Float) {u u' x x' e e' : List Float} → Vecs n σ u u' → Vecs n σ x x' → Vecs n σ e e' → (i : ℕ) → i < n
@@ -111,31 +128,34 @@ module _ {n : ℕ} {σ : ℕ → Bool} where
 
   pub progress-m : {s s' : Session} → Lives n σ s s' → Progresses n σ (progress s) (progress s')
   unfolding progress progressOf pointOf usedJacobian
-  progress-m (live k t rtol atol h held None c N D U F W J R) = refused-m
-  progress-m (live k t rtol atol h held Supplied c {r = r} {r' = r'} N D U F W J R) =
+  progress-m (live N (run-m k t rtol atol held U F W) (trial-m h None c D J R)) = refused-m
+  progress-m (live N (run-m k t rtol atol held U F W) (trial-m h Supplied c {r = r} {r' = r'} D J R)) =
       step-m r r' k (c - 0) (points t h (isHeld held) (vecs U) (vecs F) (history-m held W)) (mats J) (λ j l. answer-m c N R j (omega arith))
-  progress-m (live k t rtol atol h held Differenced c N D U F W J R) = absurd (true≢false D)
+  progress-m (live N (run-m k t rtol atol held U F W) (trial-m h Differenced c D J R)) = absurd (true≢false D)
 
   -- ---- the sessions that the calls make
-  pub opened-m : (k : ℕ) (t rtol atol : Float) (held : History) {u u' f f' w w' : List Float} → n ≤ 16 → Placed (within n) σ u u' → Placed (within n) σ f f' → Placed (within (usedHistory held n)) σ w w'
-      → Lives n σ (opened k n t u f rtol atol held w) (opened k n t u' f' rtol atol held w')
-  unfolding opened
-  opened-m k t rtol atol held N U F W = live k t rtol atol zero+ held None 0 N refl U F W (blank-m _ _ 256) (blank-m _ _ 320)
+  pub idle-m : Trials n σ idle idle
+  unfolding idle fresh
+  idle-m = trial-m zero+ None 0 refl (blank-m _ _ 256) (blank-m _ _ 320)
 
-  pub begun-m : {s s' : Session} {j j' : List Float} (h : Float) (a : Attempt) → isDifferenced a ≡ false → Lives n σ s s' → Placed (within (usedJacobian a n)) (cross n σ) j j'
-      → Lives n σ (begun s h a j) (begun s' h a j')
-  unfolding begun
-  begun-m h a E (live k t rtol atol h0 held a0 c N D U F W J0 R) J = live k t rtol atol h held a 0 N E U F W J (blank-m _ _ 320)
+  pub opened-m : {r r' : Run} → n ≤ 16 → Runs n σ r r' → Lives n σ (opened r) (opened r')
+  unfolding opened
+  opened-m N R = live N R idle-m
+
+  pub begun-m : {s s' : Session} {j j' : List Float} (h : Float) (a : Attempt) → isDifferenced a ≡ false → Lives n σ s s'
+      → Placed (within (usedJacobian a n)) (cross n σ) j j' → Lives n σ (begun s h a j) (begun s' h a j')
+  unfolding begun fresh
+  begun-m h a E (live N R T) J = live N R (trial-m h a 0 E J (blank-m _ _ 320))
 
   pub rested-m : {s s' : Session} → Lives n σ s s' → Lives n σ (rested s) (rested s')
   unfolding rested
-  rested-m S = begun-m zero+ None refl S (blank-m _ _ 256)
+  rested-m (live N R T) = opened-m N R
 
   pub answered-m : {s s' : Session} {x x' : List Float} → Lives n σ s s' → Placed (within n) σ x x' → Lives n σ (answered s x) (answered s' x')
   unfolding answered
-  answered-m (live k t rtol atol h held a c N D U F W J R) X = live k t rtol atol h held a (c + 1) N D U F W J (store-m n σ c R X)
+  answered-m (live N R (trial-m h a c D J A)) X = live N R (trial-m h a (c + 1) D J (store-m n σ c A X))
 
   pub moved-m : {s s' : Session} {x x' f f' g g' : List Float} (t : Float) → Lives n σ s s' → Placed (within n) σ x x' → Placed (within n) σ f f' → Placed (within n) σ g g'
       → Lives n σ (moved s t x f g) (moved s' t x' f' g')
   unfolding moved
-  moved-m t (live k t0 rtol atol h held a c N D U F0 W J R) X F G = opened-m k t rtol atol _ N X F (kept-m n σ held (eqb k 13) W G)
+  moved-m t (live N (run-m k t0 rtol atol held U F0 W) T) X F G = opened-m N (run-m k t rtol atol _ X F (kept-m n σ held (eqb k 13) W G))

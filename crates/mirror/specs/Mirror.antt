@@ -1,5 +1,5 @@
 -- Demand 3, as document 01's 'The mirrored runs of demand 3' reads it: one statement about an opening and a list of calls. Definitions only.
-use Prim.Native.Nat.{ℕ, _*_, _/_, _%_, _<_}
+use Prim.Native.Nat.{ℕ, _/_, _%_, _<_}
 use mathlib.Core.Path.{_≡_}
 use mathlib.Core.Logic.{_⊎_}
 use mathlib.Core.Bool.{Bool, true, false, _&&_}
@@ -10,53 +10,15 @@ use lib.Ieee.{Float, nan, inf, fin, unlike}
 use lib.ListN.{length}
 use Rattle.loops.specs.Loop.{tab, _!_}
 use Rattle.session.specs.declared.Session.{Session}
-use Rattle.session.specs.declared.Answer.{Answer}
-use Rattle.session.specs.declared.Answer.the-variants.{Ask, Ready, Resting, FirstStep, Filled, Norm, Refused}
-use Rattle.session.specs.declared.History.{History}
-use Rattle.session.specs.declared.History.the-variants.{Missing, Held}
-use Rattle.session.specs.declared.Attempt.{Attempt}
-use Rattle.session.specs.declared.Attempt.the-variants.{None, Supplied, Differenced}
 use Rattle.session.specs.declared.Wish.{Wish}
 use Rattle.session.specs.declared.Wish.the-variants.{Given, Difference}
-use Rattle.session.specs.Calls.{Outcome, outcome, openCall, beginCall, supplyCall, acceptCall, dropCall, firstStepCall}
+use Rattle.session.specs.Values.{isRefused}
+use Rattle.session.specs.Session.{Run, Trial, runOf, trialOf, usedHistory, usedJacobian, inAnswers}
+use Rattle.session.specs.Calls.{Outcome, attemptOf}
+use Rattle.session.specs.Runs.{Call, begin, supply, accept, drop, firstStep, perform, opening, run}
 
--- ---- the runs: 'Two runs of demand 2's definition open, then make the same calls .. in any order and number, none too'
-
--- what open is handed
-pub record Opening : Type 0 where
-  pub scheme : ℕ
-  pub n : ℕ
-  pub time : Float
-  pub state : List Float
-  pub derivative : List Float
-  pub relative : Float
-  pub absolute : Float
-  pub history : History
-  pub previous : List Float
-
--- a call with what is handed in; begin and supply are lent an output
-pub data Call : Type 0 where
-  begin : Float → Wish → List Float → List Float → Call
-  supply : List Float → List Float → Call
-  accept : List Float → Call
-  drop : Call
-  firstStep : Float → Call
-
--- demand 2's definition of a call; one that is lent no output leaves none
-unfoldable pub perform : Call → Session → Outcome
-perform (begin step wish jacobian out) s = beginCall s step wish jacobian out
-perform (supply answer out) s = supplyCall s answer out
-perform (accept derivative) s = outcome (acceptCall s derivative) []
-perform drop s = outcome (dropCall s) []
-perform (firstStep largest) s = outcome (firstStepCall s largest) []
-
-unfoldable pub opening : Opening → Outcome
-opening o = outcome (openCall (o .scheme) (o .n) (o .time) (o .state) (o .derivative) (o .relative) (o .absolute) (o .history) (o .previous)) []
-
--- 'Each call gets the session that the last one returned, after a refusal too'
-unfoldable pub run : Session → List Call → List Outcome
-run s [] = []
-run s (c ∷ cs) = let r = perform c s in r ∷ run (r .told .session) cs
+-- The runs, 'Two runs of demand 2's definition open, then make the same calls .. in any order and number, none too', are those of the session's specs/Runs.antt:
+-- an opening hands in a Run, and 'Each call gets the session that the last one returned, after a refusal too'.
 
 -- ---- flips: 'To flip is to turn the sign bit'
 
@@ -69,33 +31,16 @@ flip s (fin t m e) = fin (unlike s t) m e
 unfoldable pub flipped : (ℕ → Bool) → (ℕ → Bool) → List Float → List Float
 flipped used turned x = tab (length x) (λ p. flip (used p && turned p) (x ! p))
 
--- 'within the first n places (n² of a Jacobian; all there are, if n is past 16)'
+-- 'within the first n places (n² of a Jacobian; all there are, if n is past 16)'; 'A history or Jacobian is in use where its enum says it is held': usedHistory, usedJacobian
 abbrev pub within : ℕ → ℕ → Bool
 within n p = ltb p n
-
--- 'A history or Jacobian is in use where its enum says it is held'
-unfoldable pub inHistory : History → ℕ → ℕ → Bool
-inHistory Missing n p = false
-inHistory Held n p = ltb p n
-
-unfoldable pub inWish : Wish → ℕ → ℕ → Bool
-inWish Given n p = ltb p (n * n)
-inWish Difference n p = false
-
-unfoldable pub inJacobian : Attempt → ℕ → ℕ → Bool
-inJacobian None n p = false
-inJacobian Supplied n p = ltb p (n * n)
-inJacobian Differenced n p = false
-
-unfoldable pub inAnswers : ℕ → ℕ → ℕ → Bool
-inAnswers count n p = ltb (p / 16) count && ltb (p % 16) n
 
 -- 'an entry flips if just one of its row and column does'
 abbrev pub entryTurned : ℕ → (ℕ → Bool) → ℕ → Bool
 entryTurned n turned p = unlike (turned (p / n)) (turned (p % n))
 
 -- 'the second hands in, flipped, what demand 3 flips': n is that handed to open, and `turned` the one choice of components
-unfoldable pub flippedOpening : (ℕ → Bool) → Opening → Opening
+unfoldable pub flippedOpening : (ℕ → Bool) → Run → Run
 flippedOpening turned o = record {
   scheme = o .scheme;
   n = o .n;
@@ -105,13 +50,13 @@ flippedOpening turned o = record {
   relative = o .relative;
   absolute = o .absolute;
   history = o .history;
-  previous = flipped (inHistory (o .history) (o .n)) turned (o .previous);
+  previous = flipped (within (usedHistory (o .history) (o .n))) turned (o .previous);
 }
 
 -- 'All else handed in, and each lent output's length, is the same'
 pub data FlippedCall (n : ℕ) (turned : ℕ → Bool) : Call → Call → Type 0 where
   begins : (step : Float) (wish : Wish) (jacobian out out' : List Float) → length out ≡ length out'
-      → FlippedCall n turned (begin step wish jacobian out) (begin step wish (flipped (inWish wish n) (entryTurned n turned) jacobian) out')
+      → FlippedCall n turned (begin step wish jacobian out) (begin step wish (flipped (within (usedJacobian (attemptOf wish) n)) (entryTurned n turned) jacobian) out')
   supplies : (answer out out' : List Float) → length out ≡ length out' → FlippedCall n turned (supply answer out) (supply (flipped (within n) turned answer) out')
   accepts : (derivative : List Float) → FlippedCall n turned (accept derivative) (accept (flipped (within n) turned derivative))
   drops : FlippedCall n turned drop drop
@@ -122,15 +67,6 @@ pub data FlippedCalls (n : ℕ) (turned : ℕ → Bool) : List Call → List Cal
   and-call : {c c' : Call} {cs cs' : List Call} → FlippedCall n turned c c' → FlippedCalls n turned cs cs' → FlippedCalls n turned (c ∷ cs) (c' ∷ cs')
 
 -- 'neither run accepts a begin that wishes it'
-unfoldable pub isRefused : Answer → Bool
-isRefused (Ask t) = false
-isRefused (Ready e r j) = false
-isRefused Resting = false
-isRefused (FirstStep h) = false
-isRefused Filled = false
-isRefused (Norm e) = false
-isRefused (Refused k) = true
-
 unfoldable pub wishesDifference : Call → Bool
 wishesDifference (begin step Given jacobian out) = false
 wishesDifference (begin step Difference jacobian out) = true
@@ -159,22 +95,29 @@ pub record Alike (used turned : ℕ → Bool) (x y : List Float) : Type 0 where
   pub inUse : (p : ℕ) → p < length x → used p ≡ true → Agrees (turned p) (x ! p) (y ! p)
   pub other : (p : ℕ) → p < length x → used p ≡ false → x ! p ≡ y ! p
 
--- 'the rest of the session is equal to the bit'
+-- 'the rest of the session is equal to the bit': the run
+pub record MirroredRun (n : ℕ) (turned : ℕ → Bool) (r r' : Run) : Type 0 where
+  pub scheme : r .scheme ≡ r' .scheme
+  pub size : r .n ≡ r' .n
+  pub time : r .time ≡ r' .time
+  pub relative : r .relative ≡ r' .relative
+  pub absolute : r .absolute ≡ r' .absolute
+  pub history : r .history ≡ r' .history
+  pub state : Alike (within n) turned (r .state) (r' .state)
+  pub derivative : Alike (within n) turned (r .derivative) (r' .derivative)
+  pub previous : Alike (within (usedHistory (r .history) n)) turned (r .previous) (r' .previous)
+
+-- and its attempt
+pub record MirroredTrial (n : ℕ) (turned : ℕ → Bool) (t t' : Trial) : Type 0 where
+  pub attempt : t .attempt ≡ t' .attempt
+  pub step : t .step ≡ t' .step
+  pub count : t .count ≡ t' .count
+  pub jacobian : Alike (within (usedJacobian (t .attempt) n)) (entryTurned n turned) (t .jacobian) (t' .jacobian)
+  pub answers : Alike (inAnswers (t .count) n) (λ p. turned (p % 16)) (t .answers) (t' .answers)
+
 pub record Mirrored (n : ℕ) (turned : ℕ → Bool) (s s' : Session) : Type 0 where
-  pub scheme : s .scheme ≡ s' .scheme
-  pub size : s .n ≡ s' .n
-  pub time : s .time ≡ s' .time
-  pub relative : s .relative ≡ s' .relative
-  pub absolute : s .absolute ≡ s' .absolute
-  pub history : s .history ≡ s' .history
-  pub attempt : s .attempt ≡ s' .attempt
-  pub step : s .step ≡ s' .step
-  pub count : s .count ≡ s' .count
-  pub state : Alike (within n) turned (s .state) (s' .state)
-  pub derivative : Alike (within n) turned (s .derivative) (s' .derivative)
-  pub previous : Alike (inHistory (s .history) n) turned (s .previous) (s' .previous)
-  pub jacobian : Alike (inJacobian (s .attempt) n) (entryTurned n turned) (s .jacobian) (s' .jacobian)
-  pub answers : Alike (inAnswers (s .count) n) (λ p. turned (p % 16)) (s .answers) (s' .answers)
+  pub run : MirroredRun n turned (runOf s) (runOf s')
+  pub trial : MirroredTrial n turned (trialOf s) (trialOf s')
 
 -- 'Each call, the opening too, then gives both runs the same kind of outcome; the refusal number and the figures .. are equal to the bit. Written outputs .. are each other's flips'
 pub record SameOutcome (n : ℕ) (turned : ℕ → Bool) (r r' : Outcome) : Type 0 where
@@ -189,7 +132,7 @@ pub data SameOutcomes (n : ℕ) (turned : ℕ → Bool) : List Outcome → List 
 -- DEMAND 3, whole
 unfoldable pub MirroredRuns : Type 0
 MirroredRuns =
-    (turned : ℕ → Bool) (o : Opening) (cs cs' : List Call)
+    (turned : ℕ → Bool) (o : Run) (cs cs' : List Call)
     → FlippedCalls (o .n) turned cs cs'
     → Undifferenced (opening o .told .session) cs
     → Undifferenced (opening (flippedOpening turned o) .told .session) cs'

@@ -119,11 +119,11 @@ supplies-run [] s = refl
 supplies-run ((x, o) ∷ rest) s = supplies-run rest (supplyCall s x o .told .session) ∙ supply-run s x o
 
 -- ---- the session of a refused open: its dimension is 0
-nothing-fault : (wants : Wants) → fault (sessionTests wants nothing) ≡ 1
+pub nothing-fault : (wants : Wants) → fault (sessionTests wants nothing) ≡ 1
 unfolding fault sessionTests good1 sizeOk nothing opened
 nothing-fault wants = refl
 
-nothing-then : (wants : Wants) (handed : Tests) → fault (sessionTests wants nothing ++ handed) ≡ 1
+pub nothing-then : (wants : Wants) (handed : Tests) → fault (sessionTests wants nothing ++ handed) ≡ 1
 unfolding unless
 nothing-then wants handed = rw (fault-append (sessionTests wants nothing) handed (session-numbered wants nothing), nothing-fault wants)
 

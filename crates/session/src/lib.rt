@@ -74,14 +74,14 @@ pub struct Told {
 }
 
 // The phase of a session: at rest, asking, or with all its answers and waiting for accept.
-enum Phase {
+pub enum Phase {
     Rest,
     Asking,
     Waiting,
 }
 
 // In which phase a call wants the session.
-enum Wants {
+pub enum Wants {
     Any,
     Only(Phase),
 }
