@@ -13,7 +13,7 @@ import re
 import sys
 
 SMALL = {'add', 'subtract', 'scale', 'axpy', 'added', 'after', 'scaled', 'more', 'combine2', 'combine3', 'a52', 'a54'}
-NONE = {'may-ask', 'asked', 'ended', 'joined', 'nothing', 'clean', 'unadmitted', 'powi2', 'powi3', 'powi4', 'powi', 'divisor'}
+NONE = {'all-finite', 'finite', 'tested', 'may-ask', 'asked', 'ended', 'joined', 'nothing', 'clean', 'unadmitted', 'powi2', 'powi3', 'powi4', 'powi', 'divisor'}
 PHI = {'phi-term', 'phi-action', 'add-term'}
 LINES = ['begin', 'go-on', 'at-once', 'checked-line', 'over-line', 'over-plain', 'alone', 'reported', 'open-line', 'last-line', 'first-part',
          'first-over', 'next-part', 'next-made', 'part-now', 'summed', 'answered-line', 'handed-on', 'handed-later']

@@ -10,7 +10,7 @@ use Rattle.evaluation.specs.Evaluation.{allFinite}
 use Rattle.methods.specs.declared.Tally.{Tally}
 use Rattle.methods.specs.declared.Action.{Action}
 use Rattle.methods.specs.Vectors.{axpy}
-use Rattle.methods.specs.Tally.{clean, joined}
+use Rattle.methods.specs.Tally.{tested, clean, joined}
 use Rattle.methods.specs.Phi.{over, more}
 use Rattle.methods.specs.Parts.{mayAsk, mayEnd}
 use Rattle.methods.specs.Pass.{Pass, ask, done, also, now, try, question, _>>=_, Stand, fails, asks, ends, under, answer, replay}
@@ -45,11 +45,11 @@ unfolding joined clean
 joined-clean x = refl
 
 under-asked : (b : Tally) (x : List Float) (t : Float) (s : Stand) → under (mayAsk b x t) s ≡ under b (cond (allFinite x && finite t) s fails)
-unfolding under mayAsk
+unfolding under mayAsk joined tested
 under-asked b x t s = cond-and (b .ok) (allFinite x && finite t) s fails
 
 under-ended : (b : Tally) (x e : List Float) (s : Stand) → under (mayEnd b x e) s ≡ under b (cond (allFinite x && allFinite e) s fails)
-unfolding under mayEnd
+unfolding under mayEnd joined tested
 under-ended b x e s = cond-and (b .ok) (allFinite x && allFinite e) s fails
 
 replay-also : (n : ℕ) (b : Tally) (p : Pass) (c j : ℕ) (r : List Float) → replay n (also b p) c j r ≡ under b (replay n p c j r)

@@ -10,6 +10,7 @@ use Rattle.matrix.specs.Matrix.{at, admitted, exponential}
 use Rattle.matrix.specs.Vector.{vec}
 use Rattle.methods.specs.declared.Action.{Action}
 use Rattle.methods.specs.declared.Tally.{Tally}
+use Rattle.methods.specs.Tally.{tested, joined}
 use Rattle.methods.specs.Phi.{checked, augmentedEntry}
 
 -- a column of the exponential of the augmented matrix of this size
@@ -20,8 +21,8 @@ phiInto n a scaleA input size column =
 
 -- the report so far, with a question's tests
 unfoldable pub mayAsk : Tally → List Float → Float → Tally
-mayAsk tally x time = record { ok = tally .ok && (allFinite x && finite time) }
+mayAsk tally x time = joined tally (tested (allFinite x && finite time))
 
 -- the report so far, with the tests of a candidate and its error vector
 unfoldable pub mayEnd : Tally → List Float → List Float → Tally
-mayEnd tally x e = record { ok = tally .ok && (allFinite x && allFinite e) }
+mayEnd tally x e = joined tally (tested (allFinite x && allFinite e))

@@ -12,7 +12,7 @@ ghost use Rattle.matrix.specs.Vector.{vec, matVec};
 ghost use Rattle.methods.specs.Numbers.{num, minus};
 ghost use Rattle.methods.specs.Vectors.{Sized, add, subtract, scale, axpy, combine};
 ghost use Rattle.methods.specs.Sizes.{places, answersKept, answerRoom};
-ghost use Rattle.methods.specs.Tally.{clean, unadmitted, joined};
+ghost use Rattle.methods.specs.Tally.{tested, clean, unadmitted, joined};
 ghost use Rattle.methods.specs.Phi.{over, more, nothing, augmentedEntry, phiAction, phiTerm, expAction};
 ghost use Rattle.methods.specs.Pass.{answer, asks, ends, under, stand};
 ghost use Rattle.methods.specs.Parts.{phiInto, mayAsk, mayEnd};
@@ -145,7 +145,14 @@ pub fn combine3(c1: f64, x1: Vector, c2: f64, x2: Vector, c3: f64, x3: Vector, n
 
 // ---- what exponentials report
 
-// No exponential yet.
+// A test, of no exponential.
+pub fn tested(ok: bool) -> Tally
+    ensures { λ r. ⌜ r ≡ tested ok ⌝ }
+{
+    Tally { ok }
+}
+
+// Nothing yet.
 pub fn clean() -> Tally
     ensures { λ r. ⌜ r ≡ clean ⌝ }
 {
@@ -491,9 +498,7 @@ pub fn may_ask(tally: Tally, x: Vector, time: f64) -> Tally
     ensures { λ r. ⌜ r ≡ mayAsk tally x time ⌝ }
 {
     let good = evaluation::all_finite(&x) & float::finite(time);
-    Tally {
-        ok: tally.ok & good,
-    }
+    joined(tally, tested(good))
 }
 
 // A question that is open.
@@ -513,9 +518,7 @@ pub fn ended(tally: Tally, x: Vector, e: Vector) -> Out
     ensures { λ r. ⌜ stand r ≡ under (mayEnd tally x e) (ends x e) ⌝ }
 {
     let good = evaluation::all_finite(&x) & evaluation::all_finite(&e);
-    let tally = Tally {
-        ok: tally.ok & good,
-    };
+    let tally = joined(tally, tested(good));
     Out {
         tally,
         kind: Kind::Done,

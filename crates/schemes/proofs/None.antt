@@ -8,7 +8,7 @@ use lib.ListN.{List·getD-eq-default}
 use Rattle.matrix.specs.Vector.{zeros}
 use Rattle.methods.specs.declared.Point.{Point}
 use Rattle.methods.specs.declared.Tally.{Tally}
-use Rattle.methods.specs.Tally.{unadmitted}
+use Rattle.methods.specs.Tally.{unadmitted, joined}
 use Rattle.methods.specs.Parts.{mayEnd}
 use Rattle.methods.specs.Pass.{Stand, ends, done, under, replay}
 use Rattle.methods.specs.Step.{pass}
@@ -28,5 +28,5 @@ past k (suc n) r = next k n (past k n (r .0)) (r .1)
 
 pub no-scheme : (S : Stand) (t : Tally) (k : ℕ) (p : Point) (a au g : List Float) (c j : ℕ) (r : List Float)
     → Avoids k 16 → t ≡ unadmitted → S ≡ under (mayEnd t zeros zeros) (ends zeros zeros) → S ≡ replay (p .n) (pass k p a au g) c j r
-unfolding pass replay under mayEnd unadmitted
+unfolding pass replay under mayEnd unadmitted joined
 no-scheme S t k p a au g c j r h e s = rw (List·getD-eq-default _ (done unadmitted zeros zeros) (past k 16 h)) (rw e at s)
