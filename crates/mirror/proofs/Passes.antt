@@ -64,9 +64,9 @@ order-4 : 0 < 4
 order-4 = lit< tt
 
 module _ {n : ℕ} {σ : ℕ → Bool} where
-  more-m : {s s' k k' : Action} (c : Float) → Actions n σ s s' → Actions n σ k k' → Actions n σ (more n s c k) (more n s' c k')
+  action-m : {s s' k k' : Action} (c : Float) → Actions n σ s s' → Actions n σ k k' → Actions n σ (more n s c k) (more n s' c k')
   unfolding more
-  more-m c S K = record { tallies = λ i. joined (S .tallies i) (K .tallies i); vs = axpy-m c (S .vs) (K .vs) }
+  action-m c S K = record { tallies = λ i. joined (S .tallies i) (K .tallies i); vs = axpy-m c (S .vs) (K .vs) }
 
   nothing-m : Actions n σ nothing nothing
   unfolding nothing
@@ -79,11 +79,11 @@ module _ {n : ℕ} {σ : ℕ → Bool} where
       let q = phiTerm-m h 3 (num 1) order-3 A X in
       let r = phiTerm-m h 2 (num 1) order-2 A X in
       let s = phiTerm-m (h ⊘ num 2) 3 (num 1) order-3 A X in
-      more-m _ (more-m _ (more-m _ (more-m _ nothing-m p) q) r) s
+      action-m _ (action-m _ (action-m _ (action-m _ nothing-m p) q) r) s
 
   a54-m : {a a' x x' : List Float} (h : Float) → Mats n σ a a' → Vecs n σ x x' → Actions n σ (a54 n a h x) (a54 n a' h x')
   unfolding a54 combineAll moreAll
-  a54-m h A X = more-m _ (more-m _ nothing-m (phiTerm-m (h ⊘ num 2) 2 (num 1) order-2 A X)) (a52-m h A X)
+  a54-m h A X = action-m _ (action-m _ nothing-m (phiTerm-m (h ⊘ num 2) 2 (num 1) order-2 A X)) (a52-m h A X)
 
 ruleset parts = (bind-m, done-m, now-m, try-m, over-m, question-m, zeros-m, plus-m, minus-m, scale-m, axpy-m, combine-m, no-terms, one-term, matVec-m, phiAction-m, phiTerm-m, expAction-m, shifted-m, remainder-m, a52-m, a54-m, order-1, order-2, order-3, order-4)
 
