@@ -1,5 +1,6 @@
 //! What docs/DIFFERENCES.md says of the Rust beside the refusals by 6.
 
+use oracle::model::{Answer, Opening, PLACES, Session};
 use oracle::published;
 use oracle::{OdeProblem, SolveOptions, SolverStats};
 use std::panic::catch_unwind;
@@ -34,6 +35,26 @@ fn a_matrix_too_short_panics() {
 }
 
 #[test]
+fn a_matrix_too_long_goes_on_with_its_first_entries() {
+    assert_eq!(published::matrix_exp(&[0.0, 0.0, 0.0, 0.0, 7.0], 2), published::matrix_exp(&[0.0; 4], 2));
+}
+
+#[test]
+fn a_time_that_is_nan_goes_on() {
+    let constant = |derivative: &mut [f64], _: &[f64], _: &(), _: f64| {
+        derivative[0] = 2.0;
+        Ok(())
+    };
+    let problem = OdeProblem::new(constant);
+    for scheme in 0..16 {
+        let mut stats = SolverStats::default();
+        let pass =
+            published::perform_step(scheme, &problem, &[1.0], f64::NAN, 1.0, &[2.0], &[0.0], None, &mut stats);
+        assert!(pass.is_ok_and(|pass| pass.candidate[0].is_finite()), "scheme {scheme}");
+    }
+}
+
+#[test]
 fn a_state_that_is_not_finite_ends_in_the_published_error() {
     assert_eq!(step(1, &[0.0], &[f64::INFINITY], &[1.0], 1.0), None);
     assert_eq!(step(13, &[0.0], &[f64::NAN], &[1.0], 1.0), None);
@@ -46,6 +67,12 @@ fn a_tolerance_of_zero_gives_an_infinite_norm_or_nan() {
     };
     assert_eq!(norm(1.0), f64::INFINITY);
     assert!(norm(0.0).is_nan());
+}
+
+#[test]
+fn a_relative_tolerance_of_zero_alone_goes_on() {
+    let options = SolveOptions::tolerances(0.0, 2.0);
+    assert_eq!(published::scaled_error_norm(&[6.0], &[1e9], &[1e9], &options), 3.0);
 }
 
 #[test]
@@ -99,4 +126,54 @@ fn a_refused_acceptance_leaves_the_kernel_changed() {
     bad.set(false);
     // The same attempt again, from the same state.
     assert!(attempt(&mut kernel, &mut stats).is_err());
+}
+
+/// f(u) = -u + 0.1 u^2 at u = 1, with J = [-0.8]: the published Rust, and document 01's session beside it.
+fn small_step(scheme: usize, step: f64) -> (Option<f64>, Answer) {
+    let rhs = |u: f64| -u + 0.1 * u * u;
+    let problem = OdeProblem::new(move |derivative: &mut [f64], u: &[f64], _: &(), _: f64| {
+        derivative[0] = rhs(u[0]);
+        Ok(())
+    });
+    let mut stats = SolverStats::default();
+    let rust =
+        published::perform_step(scheme, &problem, &[1.0], 0.0, step, &[rhs(1.0)], &[-0.8], None, &mut stats);
+    let first = |x: f64| {
+        let mut vector = [0.0; PLACES];
+        vector[0] = x;
+        vector
+    };
+    let (_, session) = Session::open(&Opening {
+        scheme: scheme as u8,
+        n: 1,
+        history_held: false,
+        time: 0.0,
+        relative: 1.0,
+        absolute: 1.0,
+        state: first(1.0),
+        derivative: first(rhs(1.0)),
+        history: [0.0; PLACES],
+    });
+    let mut jacobian = [0.0; PLACES * PLACES];
+    jacobian[0] = -0.8;
+    let mut lent = [0.0];
+    let (mut answer, mut session) = session.begin(true, step, &jacobian, &mut lent);
+    while let Answer::Ask { .. } = answer {
+        let supplied = first(rhs(lent[0]));
+        (answer, session) = session.supply(&supplied, &mut lent);
+    }
+    (rust.ok().map(|pass| pass.candidate[0]), answer)
+}
+
+#[test]
+fn small_steps_are_refused_where_a_coefficient_over_a_power_of_the_step_is_large() {
+    for (scheme, power) in [(9, 11), (8, 26), (7, 27), (10, 27)] {
+        let step = 0.5_f64.powi(power);
+        let (rust, session) = small_step(scheme, 2.0 * step);
+        assert!(rust.is_some_and(f64::is_finite), "scheme {scheme}");
+        assert!(matches!(session, Answer::Ready { .. }), "scheme {scheme}: {session:?}");
+        let (rust, session) = small_step(scheme, step);
+        assert!(rust.is_some_and(f64::is_finite), "scheme {scheme}");
+        assert_eq!(session, Answer::Refused(6), "scheme {scheme}");
+    }
 }

@@ -1,6 +1,6 @@
 //! What docs/DIFFERENCES.md says of the Rust where document 01 refuses by 6.
 
-use oracle::refused::{Fate, fate, kinds};
+use oracle::refused::{Fate, Input, fate, kinds};
 
 const HANGS: Fate = Fate::Hangs { squarings: u32::MAX };
 
@@ -80,4 +80,22 @@ fn a_state_or_time_that_is_not_finite_is_asked_all_the_same() {
     assert_eq!(of("an asked state infinite, in differencing", goes_on).len(), 16);
     assert_eq!(of("an asked time not finite", goes_on), [2, 3, 4, 5]);
     assert_eq!(of("the accepted time not finite", goes_on), [0, 1, 13]);
+}
+
+/// Document 01 refuses such a step by 5.
+#[test]
+fn a_step_that_is_not_finite_hangs_or_errs() {
+    let step_of = |jacobian: f64, step: f64| Input {
+        jacobian: Some(jacobian),
+        time: 0.0,
+        state: 1.0,
+        f0: 1.0,
+        step,
+        answers: vec![1.0],
+    };
+    for scheme in 0..16 {
+        assert_eq!(fate(scheme, &step_of(-1.0, f64::INFINITY)), HANGS, "scheme {scheme}");
+        assert_eq!(fate(scheme, &step_of(0.0, f64::INFINITY)), Fate::Errs, "scheme {scheme}");
+        assert_eq!(fate(scheme, &step_of(-1.0, f64::NAN)), Fate::Errs, "scheme {scheme}");
+    }
 }

@@ -9,6 +9,7 @@ use Rattle.loops.specs.Loop.{every, _!_}
 use Rattle.float.specs.Arith.{_⊕_, _⊖_, _⊗_, _⊘_, zero+, one, epsilon, root-epsilon, finite, abs, larger, powi2, sumOf, most}
 use Rattle.float.specs.Root.{sqrt}
 use Rattle.evaluation.specs.Evaluation.{allFinite}
+use Rattle.evaluation.specs.Sizes.{places}
 use Rattle.matrix.specs.Vector.{vec}
 
 -- ---- compute_jacobian: column by column, answer j belongs to column j
@@ -27,7 +28,7 @@ perturbed n state j = vec n (λ i. perturbedEntry (state ! i) i j)
 
 -- the entry in row i and column j: the difference divided by delta, not by the step that rounding left
 unfoldable pub jacobianEntry : List Float → List Float → List Float → ℕ → ℕ → Float
-jacobianEntry state f0 answers i j = (answers ! (16 * j + i) ⊖ f0 ! i) ⊘ delta (state ! j)
+jacobianEntry state f0 answers i j = (answers ! (places * j + i) ⊖ f0 ! i) ⊘ delta (state ! j)
 
 -- column j was asked at a finite state, and its entries are finite
 unfoldable pub columnOk : ℕ → List Float → List Float → List Float → ℕ → Bool

@@ -4,7 +4,9 @@ ghost use Prim.Native.Nat.{ℕ, _+_, _*_, _≤_, _<_};
 ghost use lib.ListN.{length};
 ghost use Rattle.loops.specs.Loop.{every, mat};
 ghost use Rattle.float.specs.Arith.{finite};
+ghost use Rattle.evaluation.specs.Sizes.{places, answerRoom};
 ghost use Rattle.engine.specs.Engine.{delta, perturbed, perturbedEntry, jacobianEntry, columnOk, ratio, errorNorm, rate, estimate, clamp, firstStep};
+use evaluation::PLACES;
 
 // By how much a component is moved.
 fn delta(x: f64) -> f64
@@ -21,11 +23,11 @@ fn perturbed_entry(x: f64, i: usize, j: usize) -> f64
 }
 
 // The state that column j is asked at.
-pub fn perturbed(state: [f64; 16], j: usize, n: usize) -> [f64; 16]
-    requires { ⌜ n ≤ 16 ⌝ }
+pub fn perturbed(state: [f64; PLACES], j: usize, n: usize) -> [f64; PLACES]
+    requires { ⌜ n ≤ places ⌝ }
     ensures { λ r. ⌜ r ≡ perturbed n state j ⌝ }
 {
-    let mut out = [0.0; 16];
+    let mut out = [0.0; PLACES];
     for i in 0..n {
         out[i] = perturbed_entry(state[i], i, j);
     }
@@ -33,20 +35,32 @@ pub fn perturbed(state: [f64; 16], j: usize, n: usize) -> [f64; 16]
 }
 
 // The entry in row i and column j, from answer j.
-fn jacobian_entry(state: [f64; 16], f0: [f64; 16], answers: &[f64], i: usize, j: usize) -> f64
-    requires { ⌜ i < 16 ⌝ }
-    requires { ⌜ j < 16 ⌝ }
-    requires { ⌜ length (now answers) ≡ 320 ⌝ }
+fn jacobian_entry(
+    state: [f64; PLACES],
+    f0: [f64; PLACES],
+    answers: &[f64],
+    i: usize,
+    j: usize,
+) -> f64
+    requires { ⌜ i < places ⌝ }
+    requires { ⌜ j < places ⌝ }
+    requires { ⌜ length (now answers) ≡ answerRoom ⌝ }
     ensures { λ r. ⌜ r ≡ jacobianEntry state f0 (now (answers .entry)) i j ⌝ }
 {
-    (answers[16 * j + i] - f0[i]) / delta(state[j])
+    (answers[PLACES * j + i] - f0[i]) / delta(state[j])
 }
 
 // Whether the entries of column j are finite.
-fn column_finite(state: [f64; 16], f0: [f64; 16], answers: &[f64], n: usize, j: usize) -> bool
-    requires { ⌜ n ≤ 16 ⌝ }
-    requires { ⌜ j < 16 ⌝ }
-    requires { ⌜ length (now answers) ≡ 320 ⌝ }
+fn column_finite(
+    state: [f64; PLACES],
+    f0: [f64; PLACES],
+    answers: &[f64],
+    n: usize,
+    j: usize,
+) -> bool
+    requires { ⌜ n ≤ places ⌝ }
+    requires { ⌜ j < places ⌝ }
+    requires { ⌜ length (now answers) ≡ answerRoom ⌝ }
     ensures { λ r. ⌜ r ≡ every n (λ i. finite (jacobianEntry state f0 (now (answers .entry)) i j)) ⌝ }
 {
     let mut ok = true;
@@ -57,10 +71,10 @@ fn column_finite(state: [f64; 16], f0: [f64; 16], answers: &[f64], n: usize, j: 
 }
 
 // Whether column j was asked at a finite state and is finite.
-fn column_ok(state: [f64; 16], f0: [f64; 16], answers: &[f64], n: usize, j: usize) -> bool
-    requires { ⌜ n ≤ 16 ⌝ }
-    requires { ⌜ j < 16 ⌝ }
-    requires { ⌜ length (now answers) ≡ 320 ⌝ }
+fn column_ok(state: [f64; PLACES], f0: [f64; PLACES], answers: &[f64], n: usize, j: usize) -> bool
+    requires { ⌜ n ≤ places ⌝ }
+    requires { ⌜ j < places ⌝ }
+    requires { ⌜ length (now answers) ≡ answerRoom ⌝ }
     ensures { λ r. ⌜ r ≡ columnOk n state f0 (now (answers .entry)) j ⌝ }
 {
     let x = perturbed(state, j, n);
@@ -68,10 +82,16 @@ fn column_ok(state: [f64; 16], f0: [f64; 16], answers: &[f64], n: usize, j: usiz
 }
 
 // The same of the first m columns.
-pub fn columns_ok(state: [f64; 16], f0: [f64; 16], answers: &[f64], n: usize, m: usize) -> bool
-    requires { ⌜ n ≤ 16 ⌝ }
+pub fn columns_ok(
+    state: [f64; PLACES],
+    f0: [f64; PLACES],
+    answers: &[f64],
+    n: usize,
+    m: usize,
+) -> bool
+    requires { ⌜ n ≤ places ⌝ }
     requires { ⌜ m ≤ n ⌝ }
-    requires { ⌜ length (now answers) ≡ 320 ⌝ }
+    requires { ⌜ length (now answers) ≡ answerRoom ⌝ }
     ensures { λ r. ⌜ r ≡ every m (columnOk n state f0 (now (answers .entry))) ⌝ }
 {
     let mut ok = true;
@@ -82,9 +102,15 @@ pub fn columns_ok(state: [f64; 16], f0: [f64; 16], answers: &[f64], n: usize, m:
 }
 
 // The Jacobian, row by row.
-pub fn jacobian_into(state: [f64; 16], f0: [f64; 16], answers: &[f64], n: usize, out: &mut [f64])
-    requires { ⌜ n ≤ 16 ⌝ }
-    requires { ⌜ length (now answers) ≡ 320 ⌝ }
+pub fn jacobian_into(
+    state: [f64; PLACES],
+    f0: [f64; PLACES],
+    answers: &[f64],
+    n: usize,
+    out: &mut [f64],
+)
+    requires { ⌜ n ≤ places ⌝ }
+    requires { ⌜ length (now answers) ≡ answerRoom ⌝ }
     requires { ⌜ length (now out) ≡ n * n ⌝ }
     ensures { λ _. ⌜ now (out .exit) ≡ mat n (jacobianEntry state f0 (now (answers .entry))) ⌝ }
 {
@@ -97,12 +123,12 @@ pub fn jacobian_into(state: [f64; 16], f0: [f64; 16], answers: &[f64], n: usize,
 fn ratio(
     relative: f64,
     absolute: f64,
-    state: [f64; 16],
-    candidate: [f64; 16],
-    error: [f64; 16],
+    state: [f64; PLACES],
+    candidate: [f64; PLACES],
+    error: [f64; PLACES],
     i: usize,
 ) -> f64
-    requires { ⌜ i < 16 ⌝ }
+    requires { ⌜ i < places ⌝ }
     ensures { λ r. ⌜ r ≡ ratio relative absolute state candidate error i ⌝ }
 {
     let size = float::larger(float::abs(state[i]), float::abs(candidate[i]));
@@ -114,12 +140,12 @@ pub fn scaled_error_norm(
     n: usize,
     relative: f64,
     absolute: f64,
-    state: [f64; 16],
-    candidate: [f64; 16],
-    error: [f64; 16],
+    state: [f64; PLACES],
+    candidate: [f64; PLACES],
+    error: [f64; PLACES],
 ) -> f64
     requires { ⌜ 1 ≤ n ⌝ }
-    requires { ⌜ n ≤ 16 ⌝ }
+    requires { ⌜ n ≤ places ⌝ }
     ensures { λ r. ⌜ r ≡ errorNorm n relative absolute state candidate error ⌝ }
 {
     let mut sum = float::powi2(ratio(relative, absolute, state, candidate, error, 0));
@@ -130,8 +156,14 @@ pub fn scaled_error_norm(
 }
 
 // Derivative entry i over its tolerance.
-fn rate(relative: f64, absolute: f64, state: [f64; 16], derivative: [f64; 16], i: usize) -> f64
-    requires { ⌜ i < 16 ⌝ }
+fn rate(
+    relative: f64,
+    absolute: f64,
+    state: [f64; PLACES],
+    derivative: [f64; PLACES],
+    i: usize,
+) -> f64
+    requires { ⌜ i < places ⌝ }
     ensures { λ r. ⌜ r ≡ rate relative absolute state derivative i ⌝ }
 {
     float::abs(derivative[i] / (absolute + relative * float::abs(state[i])))
@@ -148,11 +180,11 @@ fn estimate(scale: f64) -> f64
 fn clamp(x: f64, largest: f64) -> f64
     ensures { λ r. ⌜ r ≡ clamp x largest ⌝ }
 {
-    if x < 2.220446049250313e-16 {
-        if largest < 2.220446049250313e-16 {
+    if x < float::EPSILON {
+        if largest < float::EPSILON {
             return largest;
         }
-        return 2.220446049250313e-16;
+        return float::EPSILON;
     }
     if largest < x {
         return largest;
@@ -165,11 +197,11 @@ pub fn estimate_initial_step(
     n: usize,
     relative: f64,
     absolute: f64,
-    state: [f64; 16],
-    derivative: [f64; 16],
+    state: [f64; PLACES],
+    derivative: [f64; PLACES],
     largest: f64,
 ) -> f64
-    requires { ⌜ n ≤ 16 ⌝ }
+    requires { ⌜ n ≤ places ⌝ }
     ensures { λ r. ⌜ r ≡ firstStep n relative absolute state derivative largest ⌝ }
 {
     let mut scale = 0.0;

@@ -8,6 +8,9 @@ ghost use Rattle.float.specs.Arith.{finite, plusZero, abs, larger, powi2
 ghost use Rattle.float.specs.Root.{sqrt, nearestRoot};
 ghost use Rattle.float.specs.Digits.{Rooted, Split, Halved, squaresOf};
 
+// 2 ^ -52, the distance from 1 to the next double.
+pub const EPSILON: f64 = 2.220446049250313e-16;
+
 // Whether x is neither infinite nor a NaN.
 pub fn finite(x: f64) -> bool
     ensures { λ r. ⌜ r ≡ finite x ⌝ }

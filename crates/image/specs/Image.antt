@@ -12,6 +12,8 @@ use Rattle.session.specs.Values.{Values}
 use Rattle.session.specs.declared.Session.{Session}
 use Rattle.session.specs.declared.History.{History}
 use Rattle.session.specs.declared.History.the-variants.{Missing, Held}
+use Rattle.evaluation.specs.Sizes.{places, answerRoom}
+use Rattle.session.specs.Session.{jacobianRoom}
 use Rattle.session.specs.declared.Attempt.{Attempt}
 use Rattle.session.specs.declared.Attempt.the-variants.{None, Supplied, Differenced}
 use Rattle.session.specs.declared.Wish.{Wish}
@@ -21,13 +23,13 @@ use Rattle.session.specs.declared.Wish.the-variants.{Given, Difference}
 
 -- places of a vector, of a Jacobian, of the 20 answers
 abbrev pub VECTOR : ℕ
-VECTOR = 16
+VECTOR = places
 
 abbrev pub MATRIX : ℕ
-MATRIX = VECTOR * VECTOR
+MATRIX = jacobianRoom
 
 abbrev pub ANSWERS : ℕ
-ANSWERS = 20 * VECTOR
+ANSWERS = answerRoom
 
 -- among the numbers
 abbrev pub schemeAt : ℕ

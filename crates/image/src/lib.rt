@@ -19,11 +19,11 @@ use session::Wish;
 // ---- how many there are, and where each field stands: behind the one before it
 
 // Places of a vector, of a Jacobian, of the 20 answers.
-pub const VECTOR: usize = 16;
+pub const VECTOR: usize = evaluation::PLACES;
 
-pub const MATRIX: usize = VECTOR * VECTOR;
+pub const MATRIX: usize = session::JACOBIAN;
 
-pub const ANSWERS: usize = 20 * VECTOR;
+pub const ANSWERS: usize = evaluation::ROOM;
 
 // Among the numbers.
 pub const SCHEME_AT: usize = 0;

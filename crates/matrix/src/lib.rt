@@ -11,6 +11,9 @@ ghost use Rattle.matrix.specs.Matrix.{at, identity, matMul, divAll, rowS
 ghost use Rattle.matrix.specs.Vector.{matVec};
 ghost use Rattle.matrix.specs.Calls.{products, Started, Normed, Scaled, Added, Turned, Summed, Filled};
 
+// 2 ^ 31, the largest row sum that is exponentiated.
+pub const LIMIT: f64 = 2147483648.0;
+
 // Where row i of a matrix of size n begins.
 fn row_start(i: usize, n: usize) -> usize
     requires { ⌜ (i < n) × (n ≤ 20) ⌝ }
@@ -197,7 +200,7 @@ fn row_norm(m: &[f64], n: usize) -> Norm
     for i in 0..n {
         let sum = row_sum(m, i, n);
         value = float::larger(value, sum);
-        ok = ok & (float::finite(sum) & (sum <= 2147483648.0));
+        ok = ok & (float::finite(sum) & (sum <= LIMIT));
     }
     Norm { ok, value }
 }
@@ -260,7 +263,7 @@ fn add_term(term: &mut [f64], sum: &mut [f64], d: f64) -> bool
         big = raise(big, float::abs(t));
         top = raise(top, float::abs(s));
     }
-    big <= 2.220446049250313e-16 * top
+    big <= float::EPSILON * top
 }
 
 // The k-th term from the last one, into next, and added to the sum; whether the series stops with it.

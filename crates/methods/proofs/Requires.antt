@@ -5,7 +5,7 @@ use mathlib.Core.List.{List}
 use native.Mathlib.Omega.{arith}
 use lib.Ieee.{Float}
 use lib.ListN.{length}
-use Rattle.methods.specs.Sizes.{places, answersKept, answerRoom}
+use Rattle.evaluation.specs.Sizes.{places, answersKept, answerRoom}
 use Rattle.methods.specs.Vectors.{Sized}
 use Rattle.methods.specs.Given.{Given}
 

@@ -4,7 +4,7 @@ use mathlib.Core.List.{List}
 use mathlib.Core.Path.{_≡_}
 use lib.Ieee.{Float}
 use lib.ListN.{length}
-use Rattle.methods.specs.Sizes.{places, answerRoom}
+use Rattle.evaluation.specs.Sizes.{places, answerRoom}
 use Rattle.methods.specs.Vectors.{Sized}
 
 -- a matrix of dimension n, room for the answers, and the number of the scheme's first answer: a differenced Jacobian takes at most one for each place

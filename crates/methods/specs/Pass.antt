@@ -13,7 +13,7 @@ use Rattle.methods.specs.declared.Kind.{Kind}
 use Rattle.methods.specs.declared.Kind.the-variants.{Question, Done}
 use Rattle.methods.specs.declared.Out.{Out}
 use Rattle.methods.specs.Numbers.{num, minus}
-use Rattle.methods.specs.Sizes.{places}
+use Rattle.evaluation.specs.Sizes.{places}
 use Rattle.methods.specs.Vectors.{subtract, axpy}
 use Rattle.methods.specs.Tally.{clean, joined}
 

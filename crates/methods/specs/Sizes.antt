@@ -1,17 +1,5 @@
--- How much room there is, and the numbers of schemes that are named. The code has each as a const of the same value. Definitions only.
-use Prim.Native.Nat.{ℕ, _*_}
-
--- the places of a vector: PLACES
-abbrev pub places : ℕ
-places = 16
-
--- how many answers are kept: ANSWERS
-abbrev pub answersKept : ℕ
-answersKept = 20
-
--- the room of all answers: ROOM
-abbrev pub answerRoom : ℕ
-answerRoom = answersKept * places
+-- The numbers of schemes that are named. The code has each as a const of the same value. Definitions only.
+use Prim.Native.Nat.{ℕ}
 
 -- ETD2, the scheme that remembers
 abbrev pub etd2Number : ℕ

@@ -11,18 +11,14 @@ ghost use Rattle.matrix.specs.Matrix.{at};
 ghost use Rattle.matrix.specs.Vector.{vec, matVec};
 ghost use Rattle.methods.specs.Numbers.{num, minus};
 ghost use Rattle.methods.specs.Vectors.{Sized, add, subtract, scale, axpy, combine};
-ghost use Rattle.methods.specs.Sizes.{places, answersKept, answerRoom};
+ghost use Rattle.evaluation.specs.Sizes.{places, answersKept, answerRoom};
 ghost use Rattle.methods.specs.Tally.{tested, clean, unadmitted, joined};
 ghost use Rattle.methods.specs.Phi.{over, more, nothing, augmentedEntry, phiAction, phiTerm, expAction};
 ghost use Rattle.methods.specs.Pass.{answer, asks, ends, under, stand};
 ghost use Rattle.methods.specs.Parts.{phiInto, mayAsk, mayEnd};
 
-// The places of a vector, the answers that are kept, and the room that these take.
-pub const PLACES: usize = 16;
-
-pub const ANSWERS: usize = 20;
-
-pub const ROOM: usize = ANSWERS * PLACES;
+// The places of a vector.
+pub const PLACES: usize = evaluation::PLACES;
 
 // The schemes that are named elsewhere: one remembers, two have an error vector.
 pub const ETD2: u8 = 13;

@@ -20,6 +20,7 @@ use Rattle.float.specs.Arith.{zero+, finite, plusZero}
 use Rattle.evaluation.specs.Evaluation.{allFinite}
 use Rattle.methods.specs.Pass.{answer}
 use Rattle.session.specs.Session.{clear, clearAnswers}
+use Rattle.session.proofs.Clear.{stored-at, other-at}
 use Rattle.mirror.specs.Mirror.{within}
 use Rattle.mirror.proofs.Floats.{Mirror, m-nan, finite-m}
 use Rattle.mirror.proofs.Vectors.{Vecs, Mats, cross, m-sign, blank-at, vec-m}
@@ -134,15 +135,6 @@ answer-m {n} {σ} {x} {y} c N P j h = vec-m n σ _ _ (λ i l. go i l (omega arit
         m-sign (ap σ (slot-column 16 j i m)) (subst (λ (b : Bool). At b (slot σ p) (x ! p) (y ! p)) u (P .at p))
 
 -- what stands at a place of an answer that was stored
-stored-at : (x r : List Float) (c p : ℕ) → p / 16 ≡ c → p < length r → stores (λ i _. x ! i) (16 * c) 16 r ! p ≡ x ! (p % 16)
-stored-at x r c p e h =
-    let q : 16 * c + p % 16 ≡ p = omega arith in
-    let l : 16 * c + p % 16 < length r = omega arith in
-    ap (λ (k : ℕ). stores (λ i _. x ! i) (16 * c) 16 r ! k) (sym q) ∙ stores-in (λ i _. x ! i) (16 * c) 16 r (p % 16) (omega arith) l
-
-other-at : (x r : List Float) (c p : ℕ) → p / 16 ≢ c → stores (λ i _. x ! i) (16 * c) 16 r ! p ≡ r ! p
-other-at x r c p ne = stores-out (λ i _. x ! i) (16 * c) 16 r p (λ j l. omega arith)
-
 same-below : (a c : ℕ) → a ≢ c → ltb a c ≡ ltb a (c + 1)
 same-below a c ne = go (decLt a c)
   where

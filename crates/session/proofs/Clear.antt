@@ -1,6 +1,5 @@
 -- Places that are +0.0 and lists of finite numbers: of nothing, of a vector, and after one answer more. Assumes nothing.
 use Prim.Native.Nat.{ℕ, zero, suc, _+_, _*_, _/_, _%_, _≤_, _<_}
-use native.Mathlib.Nat.{eq-or-lt-of-le, le-of-suc-le-suc, not-suc-le-zero}
 use native.Mathlib.Decide.{decLt, ℕ-discrete}
 use native.Mathlib.Omega.{arith}
 use mathlib.Core.Path.{_≡_, refl, sym, ap, _∙_, subst}
@@ -14,7 +13,9 @@ use lib.Ieee.{Float, nan, inf, fin, binary64, eq, fits, up, down, odd, ofBits, o
 use lib.ListN.{length, replicate, length-replicate, getD-replicate}
 use lib.Seq.{ext-getD}
 use borrow.Author.Tests.{lt-ltb, ltb-true, eq-eqb, eqb-true}
+use Rattle.loops.proofs.Bools.{both-true}
 use Rattle.loops.specs.Loop.{every, stores, _!_}
+use Rattle.loops.proofs.Loops.{every-at}
 use Rattle.loops.proofs.Stores.{length-stores, stores-in, stores-out}
 use Rattle.float.specs.Arith.{zero+, finite, plusZero, abs}
 use Rattle.float.proofs.Floats.{abs-zero}
@@ -22,20 +23,12 @@ use Rattle.evaluation.specs.Evaluation.{allFinite}
 use Rattle.methods.specs.Shape.{Vector}
 use Rattle.session.specs.Session.{clear, inAnswers, clearAnswers}
 use Rattle.session.specs.Claims.{Doubles}
-use Rattle.session.proofs.Tests.{both-true}
 
 -- ---- every
 every-of : (n : ℕ) (f : ℕ → Bool) → ((i : ℕ) → i < n → f i ≡ true) → every n f ≡ true
 unfolding every
 every-of zero f h = refl
 every-of (suc n) f h = rw (every-of n f (λ i l. h i (omega arith)), h n (omega arith))
-
-pub every-at : (n : ℕ) (f : ℕ → Bool) → every n f ≡ true → (i : ℕ) → i < n → f i ≡ true
-unfolding every
-every-at zero f h i l = absurd (not-suc-le-zero l)
-every-at (suc n) f h i l =
-    let p = both-true (every n f) (f n) h in
-    elim (eq-or-lt-of-le (le-of-suc-le-suc l)) [ inl e ↦ rw e (p .1) | inr q ↦ every-at n f (p .0) i q ]
 
 -- ---- +0.0
 zero-plus : plusZero zero+ ≡ true
@@ -78,15 +71,16 @@ vector-clear {n} {x} v = every-of (length x) _ (λ i l. go i (omega (arith, v .p
     go i l (no h) = rw (v .clear i (omega arith) l, zero-plus) (or-true (ltb i n))
 
 -- ---- one answer more
-pub stored-at : (x r : List Float) (c p : ℕ) → 16 * c + 16 ≤ length r → p / 16 ≡ c → stores (λ i _. x ! i) (16 * c) 16 r ! p ≡ x ! (p % 16)
-stored-at x r c p h e =
+pub stored-at : (x r : List Float) (c p : ℕ) → p / 16 ≡ c → p < length r → stores (λ i _. x ! i) (16 * c) 16 r ! p ≡ x ! (p % 16)
+stored-at x r c p e h =
     let q : 16 * c + p % 16 ≡ p = omega arith in
-    ap (λ (k : ℕ). stores (λ i _. x ! i) (16 * c) 16 r ! k) (sym q) ∙ stores-in (λ i _. x ! i) (16 * c) 16 r (p % 16) (omega arith) h
+    let l : 16 * c + p % 16 < length r = omega arith in
+    ap (λ (k : ℕ). stores (λ i _. x ! i) (16 * c) 16 r ! k) (sym q) ∙ stores-in (λ i _. x ! i) (16 * c) 16 r (p % 16) (omega arith) l
 
 pub other-at : (x r : List Float) (c p : ℕ) → p / 16 ≢ c → stores (λ i _. x ! i) (16 * c) 16 r ! p ≡ r ! p
 other-at x r c p ne = stores-out (λ i _. x ! i) (16 * c) 16 r p (λ j l. omega arith)
 
-module _ (n count : ℕ) (x r : List Float) (sixteen : length x ≡ 16) (room : 16 * count + 16 ≤ length r) where
+module _ (n count : ℕ) (x r : List Float) (sixteen : length x ≡ 16) where
   pub clear-answered : clear n x ≡ true → clearAnswers count n r ≡ true → clearAnswers (count + 1) n (stores (λ i _. x ! i) (16 * count) 16 r) ≡ true
   unfolding clearAnswers clear
   clear-answered cx cr =
@@ -107,7 +101,7 @@ module _ (n count : ℕ) (x r : List Float) (sixteen : length x ≡ 16) (room : 
 
       go : (p : ℕ) → p < length r → Dec (p / 16 ≡ count) → (inAnswers (count + 1) n p || plusZero (stores (λ i _. x ! i) (16 * count) 16 r ! p)) ≡ true
       go p l (yes e) =
-          rw (stored-at x r count p room e)
+          rw (stored-at x r count p e l)
           (past (ltb (p % 16) n) _ _ (new p e) (every-at (length x) _ cx (p % 16) (omega (arith, sixteen))))
       go p l (no ne) = rw (other-at x r count p ne) (past (inAnswers count n p) _ _ (wider p) (every-at (length r) _ cr p l))
 
@@ -117,7 +111,7 @@ module _ (n count : ℕ) (x r : List Float) (sixteen : length x ≡ 16) (room : 
       every-of (length (stores (λ i _. x ! i) (16 * count) 16 r)) _ (λ p l. go p (rw (length-stores (λ i _. x ! i) (16 * count) 16 r) at l) (ℕ-discrete (p / 16) count))
     where
       go : (p : ℕ) → p < length r → Dec (p / 16 ≡ count) → finite (stores (λ i _. x ! i) (16 * count) 16 r ! p) ≡ true
-      go p l (yes e) = rw (stored-at x r count p room e) (every-at (length x) _ fx (p % 16) (omega (arith, sixteen)))
+      go p l (yes e) = rw (stored-at x r count p e l) (every-at (length x) _ fx (p % 16) (omega (arith, sixteen)))
       go p l (no ne) = rw (other-at x r count p ne) (every-at (length r) _ fr p l)
 
 -- ---- a double that is +0.0 by the test is +0.0

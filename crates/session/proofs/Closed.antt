@@ -8,13 +8,14 @@ use mathlib.Core.Bool.{Bool, true, false, cond, _&&_, false≢true}
 use mathlib.Core.List.{List, [], _∷_}
 use lib.Dec.{ltb, leb, eqb}
 use lib.Ieee.{Float, ofBits}
-use lib.ListN.{length, replicate, length-replicate}
+use lib.ListN.{length, replicate}
 use borrow.Author.Tests.{le-leb, leb-true}
+use Rattle.loops.proofs.Bools.{both-true}
 use Rattle.loops.specs.Loop.{stores, _!_}
-use Rattle.loops.proofs.Stores.{length-stores}
 use Rattle.float.specs.Arith.{_⊕_, zero+, finite, plusZero}
 use Rattle.evaluation.specs.Evaluation.{allFinite}
-use Rattle.methods.specs.Sizes.{places, answersKept, answerRoom, etd2Number}
+use Rattle.evaluation.specs.Sizes.{places, answersKept, answerRoom}
+use Rattle.methods.specs.Sizes.{etd2Number}
 use Rattle.methods.specs.Step.{Progress, refused, asking, ended}
 use Rattle.methods.specs.Shape.{Whole}
 use Rattle.session.specs.declared.Session.{Session}
@@ -40,8 +41,8 @@ use Rattle.session.specs.Calls.{openCall, beginCall, supplyCall, acceptC
 use Rattle.session.specs.Refusals.{Kept, Unchanged}
 use Rattle.session.specs.Runs.{Call, begin, supply, accept, drop, firstStep, perform, after}
 use Rattle.session.specs.Claims.{TypedCall, TypedCalls, Closed, Closes}
-use Rattle.session.proofs.Tests.{both-true, unless-either}
-use Rattle.session.proofs.Laws.{session-row, fault-none, wants-more, few-answers, begin-passes, supply-passes, accept-passes, first-step-passes, attempt-row, vector-row}
+use Rattle.session.proofs.Tests.{unless-either}
+use Rattle.session.proofs.Laws.{session-row, fault-none, wants-more, begin-passes, supply-passes, accept-passes, first-step-passes, attempt-row, vector-row}
 use Rattle.session.proofs.Clear.{clear-zeros, clear-answers-zeros, finite-zeros, vector-clear, clear-answered, finite-answered}
 use Rattle.session.proofs.Refusals.{refusals}
 use Rattle.session.proofs.Ends.{Wholes, ended-whole}
@@ -177,10 +178,9 @@ begun-good s step w j lent g e =
       answers-finite = finite-zeros answerRoom;
     }
 
-pub answered-good : (s : Session) (x : List Float) (lent : Bool) → length x ≡ places → length (s .answers) ≡ answerRoom → Good s
-    → s .count < answersKept → s .count < wantedBy s → fault (vectorTests (s .n) x lent) ≡ 0 → Good (answered s x)
+pub answered-good : (s : Session) (x : List Float) (lent : Bool) → length x ≡ places → Good s → s .count < wantedBy s → fault (vectorTests (s .n) x lent) ≡ 0 → Good (answered s x)
 unfolding answered good4
-answered-good s x lent sixteen room g few more e =
+answered-good s x lent sixteen g more e =
     let row = vector-row (s .n) x lent e in
     record {
       size = g .size;
@@ -190,7 +190,7 @@ answered-good s x lent sixteen room g few more e =
       step = g .step;
       jacobian = g .jacobian;
       answers =
-          clear-answered (s .n) (s .count) x (s .answers) sixteen (omega arith)
+          clear-answered (s .n) (s .count) x (s .answers) sixteen
           (both-true (clear (s .n) x) lent (unfold condition vectorTests in row 1) .0) (g .answers);
       scheme = g .scheme;
       history = g .history;
@@ -202,7 +202,7 @@ answered-good s x lent sixteen room g few more e =
       derivative-finite = g .derivative-finite;
       previous-finite = g .previous-finite;
       jacobian-finite = g .jacobian-finite;
-      answers-finite = finite-answered (s .n) (s .count) x (s .answers) sixteen (omega arith) (unfold condition vectorTests in row 3) (g .answers-finite);
+      answers-finite = finite-answered (s .n) (s .count) x (s .answers) sixteen (unfold condition vectorTests in row 3) (g .answers-finite);
     }
 
 -- a run at rest: what is asked of its fields
@@ -344,14 +344,14 @@ begin-good s step w j o =
     let p = begin-passes s step (attemptOf w) j (length o) e in
     shown-good s next o (progress next) (begun-good s step w j (length o) (passed-good (Only Rest) s (p .0)) (p .1)))
 
-supply-good : (s : Session) (x o : List Float) → length x ≡ places → length (s .answers) ≡ answerRoom → number (supplyCall s x o .told .answer) ≡ 0 → Good (supplyCall s x o .told .session)
+supply-good : (s : Session) (x o : List Float) → length x ≡ places → number (supplyCall s x o .told .answer) ≡ 0 → Good (supplyCall s x o .told .session)
 unfolding supplyCall
-supply-good s x o sixteen room =
+supply-good s x o sixteen =
     let next = answered s x in
     lent-good (fault (supplyTests s x (length o))) s o (shown s next o (progress next)) (λ e.
     let p = supply-passes s x (length o) e in
     shown-good s next o (progress next)
-    (answered-good s x (eqb (length o) (s .n)) sixteen room (passed-good (Only Asking) s (p .0)) (few-answers s (p .0)) (wants-more s (p .0)) (p .1)))
+    (answered-good s x (eqb (length o) (s .n)) sixteen (passed-good (Only Asking) s (p .0)) (wants-more s (p .0)) (p .1)))
 
 accept-good : (s : Session) (f : List Float) → number (acceptCall s f .answer) ≡ 0 → Good (acceptCall s f .session)
 unfolding acceptCall
@@ -368,60 +368,13 @@ first-good : (s : Session) (largest : Float) → number (firstStepCall s largest
 unfolding firstStepCall
 first-good s largest = told-good (fault (firstStepTests s largest)) s _ (λ e _. passed-good Any s (first-step-passes s largest e))
 
-performed-good : (c : Call) (s : Session) → TypedCall c → length (s .answers) ≡ answerRoom → number (perform c s .told .answer) ≡ 0 → Good (perform c s .told .session)
+performed-good : (c : Call) (s : Session) → TypedCall c → number (perform c s .told .answer) ≡ 0 → Good (perform c s .told .session)
 unfolding perform TypedCall
-performed-good (begin step w j o) s t room = begin-good s step w j o
-performed-good (supply x o) s t room = supply-good s x o t room
-performed-good (accept f) s t room = accept-good s f
-performed-good drop s t room = drop-good s
-performed-good (firstStep largest) s t room = first-good s largest
-
--- ---- the answers keep their room
-
-abbrev pub Room : Session → Type 0
-Room s = length (s .answers) ≡ answerRoom
-
-opened-room : (r : Run) → Room (opened r)
-unfolding opened idle fresh
-opened-room r = length-replicate answerRoom zero+
-
-shown-room : (old s : Session) (o : List Float) (p : Progress) → Room old → Room s → Room (shown old s o p .told .session)
-unfolding shown
-shown-room old s o refused h k = h
-shown-room old s o (asking x t) h k = k
-shown-room old s o (ended x e g) h k = k
-
-settled-room : (s : Session) (f : List Float) (p : Progress) → Room s → Room (settled s f p .session)
-unfolding settled arrived
-settled-room s f refused h = h
-settled-room s f (asking x t) h = h
-settled-room s f (ended x e g) h = go (finite (s .time ⊕ s .step))
-  where
-    go : (b : Bool) → Room (cond b (tell Resting (moved s (s .time ⊕ s .step) x f g)) (refuse s 6) .session)
-    go true = unfold moved in opened-room _
-    go false = h
-
-told-room : (k : ℕ) (s : Session) (r : Told) → Room s → Room (r .session) → Room (unless k (refuse s) r .session)
-told-room k s r h f = unless-either k (refuse s) r (λ r. Room (r .session)) (λ j. h) (λ _. f)
-
-lent-room : (k : ℕ) (s : Session) (o : List Float) (r : Outcome) → Room s → Room (r .told .session) → Room (unless k (refuseLent s o) r .told .session)
-lent-room k s o r h f = unless-either k (refuseLent s o) r (λ r. Room (r .told .session)) (λ j. h) (λ _. f)
-
-begun-room : (s : Session) (step : Float) (a : Attempt) (j : List Float) → Room (begun s step a j)
-unfolding begun fresh
-begun-room s step a j = length-replicate answerRoom zero+
-
-answered-room : (s : Session) (x : List Float) → Room s → Room (answered s x)
-unfolding answered
-answered-room s x h = length-stores _ (places * s .count) places (s .answers) ∙ h
-
-performed-room : (c : Call) (s : Session) → Room s → Room (perform c s .told .session)
-unfolding perform beginCall supplyCall acceptCall dropCall firstStepCall
-performed-room (begin step w j o) s h = lent-room _ s o _ h (shown-room s _ o _ h (begun-room s step (attemptOf w) j))
-performed-room (supply x o) s h = lent-room _ s o _ h (shown-room s _ o _ h (answered-room s x h))
-performed-room (accept f) s h = told-room _ s _ h (settled-room s f _ h)
-performed-room drop s h = told-room _ s _ h (unfold rested in opened-room _)
-performed-room (firstStep largest) s h = told-room _ s _ h h
+performed-good (begin step w j o) s t = begin-good s step w j o
+performed-good (supply x o) s t = supply-good s x o t
+performed-good (accept f) s t = accept-good s f
+performed-good drop s t = drop-good s
+performed-good (firstStep largest) s t = first-good s largest
 
 -- ---- runs
 
@@ -440,21 +393,17 @@ kept-or-accepted c s = go (ℕ-discrete (number (perform c s .told .answer)) 0)
     go (yes e) = inl e
     go (no n) = inr (same c n)
 
-pub after-good : (cs : List Call) (s : Session) → TypedCalls cs → Room s → Good s → Good (after s cs)
+pub after-good : (cs : List Call) (s : Session) → TypedCalls cs → Good s → Good (after s cs)
 unfolding after TypedCalls
-after-good [] s t h g = g
-after-good (c ∷ cs) s t h g =
-    after-good cs (perform c s .told .session) (t .1) (performed-room c s h)
-    (elim (kept-or-accepted c s) [ inl e ↦ performed-good c s (t .0) h e | inr e ↦ subst Good (sym e) g ])
-
-open-room : (r : Run) → Room (openCall r .session)
-unfolding openCall
-open-room r = told-room _ nothing _ (unfold nothing in opened-room _) (opened-room r)
+after-good [] s t g = g
+after-good (c ∷ cs) s t g =
+    after-good cs (perform c s .told .session) (t .1)
+    (elim (kept-or-accepted c s) [ inl e ↦ performed-good c s (t .0) e | inr e ↦ subst Good (sym e) g ])
 
 -- ---- THE CLAIM
 pub closes : Closes
 closes = record {
   opens = λ r e. good-closed (open-good r e);
-  call = λ c s t room e. good-closed (performed-good c s t room e);
-  run = λ r cs e t. good-closed (after-good cs (openCall r .session) t (open-room r) (open-good r e));
+  call = λ c s t e. good-closed (performed-good c s t e);
+  run = λ r cs e t. good-closed (after-good cs (openCall r .session) t (open-good r e));
 }

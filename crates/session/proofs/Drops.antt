@@ -9,9 +9,10 @@ use lib.Dec.{ltb, leb·suc-zero}
 use lib.Ieee.{Float, le}
 use lib.ListN.{length, replicate}
 use borrow.Author.Tests.{leb-true}
+use Rattle.loops.proofs.Loops.{every-at}
 use Rattle.loops.specs.Loop.{every, _!_}
 use Rattle.float.specs.Arith.{zero+, epsilon, plusZero}
-use Rattle.methods.specs.Sizes.{answerRoom}
+use Rattle.evaluation.specs.Sizes.{answerRoom}
 use Rattle.methods.specs.Step.{Progress, refused, asking, ended}
 use Rattle.engine.specs.Claims.{Between}
 use Rattle.engine.proofs.FirstStep.{first-step-told}
@@ -35,7 +36,7 @@ use Rattle.session.specs.Runs.{Call, begin, supply, accept, drop, firstS
 use Rattle.session.specs.Claims.{Doubles, Typed, TypedCall, TypedCalls, Closed, supplies, Drops, FirstSteps}
 use Rattle.session.proofs.Tests.{passes, fault-append, both-pass, unless-either}
 use Rattle.session.proofs.Laws.{in-phase, session-numbered}
-use Rattle.session.proofs.Clear.{every-at, plus-zero-is, nothing-in}
+use Rattle.session.proofs.Clear.{plus-zero-is, nothing-in}
 use Rattle.session.proofs.Closed.{Good, passed-good, good-closed, after-good}
 
 -- ---- a session at rest has no attempt
@@ -160,7 +161,7 @@ drops = record {
       let calls = begin step wish jacobian out ∷ supplies answers in
       let kept : runOf (after s calls) ≡ runOf s =
       unfold after perform in supplies-run answers (beginCall s step wish jacobian out .told .session) ∙ begin-run s step wish jacobian out in
-      let good : Good (after s calls) = after-good calls s (unfold TypedCalls TypedCall in (tt, typed)) (t .answers .places) (passed-good (Only Rest) s e) in
+      let good : Good (after s calls) = after-good calls s (unfold TypedCalls TypedCall in (tt, typed)) (passed-good (Only Rest) s e) in
       dropped (after s calls) good ∙ ap (tell Resting) (same-rest (after s calls) s kept ∙ rested-same s t e);
   nothing = nothing-one;
 }

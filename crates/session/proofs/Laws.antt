@@ -1,8 +1,9 @@
 -- What follows from tests that passed, and what is told of an attempt. Assumes nothing.
+use Rattle.loops.proofs.Bools.{both-true}
 use Rattle.methods.specs.Step.{questions, Progress, refused, progress as reached, progressKind}
 use Rattle.session.specs.Tests.{Tests, fault, condition, numbered, unless}
 use Rattle.session.specs.Session.{schemes, largest, Run, joined, trialOf, fresh, wanted, wantedBy, phaseWith, phaseAt, phaseOf, phaseNumber, admits, sizeOk, runPlaces, attemptPlaces, good1, historyOk, good2, good7, sessionTests, usedJacobian, Sound, clear}
-use Rattle.methods.specs.Sizes.{answersKept}
+use Rattle.evaluation.specs.Sizes.{answersKept}
 use Rattle.methods.specs.Vectors.{Sized}
 use Rattle.session.specs.Bare.{exponentialTests, phiTests, normTests}
 use Rattle.session.specs.Calls.{Outcome, outcome, tell, refuse, refuseLent, opened, nothing, openCall, begun, answered, attemptOf, vectorTests, attemptTests, beginTests, supplyTests, acceptTests, firstStepTests, shown, arrived, settled, answerOf}
@@ -31,7 +32,7 @@ use Rattle.session.specs.declared.Phase.the-variants.{Rest, Asking, Wait
 use Rattle.session.specs.declared.Wants.{Wants}
 use Rattle.session.specs.declared.Wants.the-variants.{Any, Only}
 use Rattle.session.specs.declared.Wish.{Wish}
-use Rattle.session.proofs.Tests.{both-true, passes, both-pass, fault-append, unless-refused}
+use Rattle.session.proofs.Tests.{passes, both-pass, fault-append, unless-refused}
 
 -- a list whose entries are all at most 4
 allSmall : List ℕ → Bool
@@ -186,14 +187,14 @@ show-kind old s o (Question t) x e g = refl
 show-kind old s o Done x e g = refl
 
 module _ (old s : Session) (o o' : List Float) (w : StepResult) (p : Progress) (v : reached w ≡ p) where
-  pub show-bad : (r : Told) → r ≡ refuse old 6 → w .ok ≡ false → outcome r o ≡ shown old s o p
+  pub show-bad : (r : Told) → r ≡ refuse old 6 → w .ok ≡ false → o' ≡ cond (w .ok) (tab (length o) (λ i. w .state ! i)) o → outcome r o' ≡ shown old s o p
   unfolding shown reached
-  show-bad r f e = rw (← v, e, f)
+  show-bad r f e c = rw (← v, c, e, f)
 
-  pub show-ok : (a : Answer) → w .ok ≡ true → length o ≡ s .n → o' ≡ tab (length o) (λ i. w .state ! i) → a ≡ answerOf s (w .kind) (w .state) (w .error)
+  pub show-ok : (a : Answer) → w .ok ≡ true → length o ≡ s .n → o' ≡ cond (w .ok) (tab (length o) (λ i. w .state ! i)) o → a ≡ answerOf s (w .kind) (w .state) (w .error)
       → outcome (tell a s) o' ≡ shown old s o p
   unfolding reached
-  show-ok a e l c h = rw (← v, e, h, c, l) (show-kind old s o (w .kind) (w .state) (w .error) (w .nonlinear))
+  show-ok a e l c h = rw (← v, h, c, e, l) (show-kind old s o (w .kind) (w .state) (w .error) (w .nonlinear))
 
 module _ (s : Session) (f : List Float) (w : StepResult) (p : Progress) (v : reached w ≡ p) where
   pub settle-bad : (r : Told) → r ≡ refuse s 6 → w .ok ≡ false → r ≡ settled s f p
@@ -220,10 +221,6 @@ pub area : {n : ℕ} → n ≤ 16 → n * n ≤ 256
 area h = mul-le-mul h h
 
 -- ---- the bare calls
-pub cond-and : {A : Type 0} (a b : Bool) (x y : A) → cond (a && b) x y ≡ cond a (cond b x y) y
-cond-and true b x y = refl
-cond-and false b x y = refl
-
 pub area20 : {n : ℕ} → n ≤ 20 → n * n ≤ 400
 area20 h = mul-le-mul h h
 

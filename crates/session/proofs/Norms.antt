@@ -8,6 +8,8 @@ use lib.Dec.{T, leb, ltb→lt, lt→ltb}
 use lib.Ieee.{Float, nan, inf, fin, binary64, up, down, fits, isNan, lt, odd, ofBits, ofFields}
 use lib.Ieee.Positive.{positive as above0, first-pos}
 use lib.ListN.{length}
+use Rattle.loops.proofs.Bools.{both-true}
+use Rattle.loops.proofs.Loops.{every-at}
 use Rattle.loops.specs.Loop.{_!_}
 use Rattle.float.specs.Arith.{zero+, finite}
 use Rattle.evaluation.specs.Evaluation.{allFinite}
@@ -26,9 +28,8 @@ use Rattle.session.specs.Session.{Run, runOf, sizeOk, clear, positive, g
 use Rattle.session.specs.Calls.{Outcome, refuseLent, begun, answered, attemptOf, hasError, readyOf, shown, beginTests, supplyTests, beginCall, supplyCall}
 use Rattle.session.specs.Bare.{normTests, normCall}
 use Rattle.session.specs.Claims.{Norms}
-use Rattle.session.proofs.Tests.{both-true, passes, unless-either}
+use Rattle.session.proofs.Tests.{passes, unless-either}
 use Rattle.session.proofs.Laws.{size-both, fault-none, begin-passes, supply-passes}
-use Rattle.session.proofs.Clear.{every-at}
 use Rattle.session.proofs.Closed.{passed-good}
 use Rattle.session.proofs.Ends.{Wholes, ended-whole}
 

@@ -7,12 +7,9 @@ use mathlib.Core.Logic.{_⊎_, inl, inr}
 use native.Mathlib.Omega.{arith}
 use lib.Dec.{ltb, eqb}
 use borrow.Author.Tests.{ltb-true}
+use Rattle.loops.proofs.Bools.{both-true}
 use Rattle.session.specs.Tests.{Tests, fault, condition, numbered, unless}
 use Rattle.session.specs.Refusals.{First}
-
-pub both-true : (a b : Bool) → (a && b) ≡ true → (a ≡ true) × (b ≡ true)
-both-true true b e = (refl, e)
-both-true false b e = absurd (false≢true e)
 
 -- ---- a row that fails gives its number; one that holds leaves it to the rows after it
 

@@ -8,7 +8,8 @@ use lib.ListN.{length, replicate}
 use Rattle.loops.specs.Loop.{tab, stores, _!_}
 use Rattle.float.specs.Arith.{_⊕_, zero+, epsilon, finite}
 use Rattle.evaluation.specs.Evaluation.{allFinite}
-use Rattle.methods.specs.Sizes.{places, etd2Number, exprb32Number, exprb43Number}
+use Rattle.evaluation.specs.Sizes.{places}
+use Rattle.methods.specs.Sizes.{etd2Number, exprb32Number, exprb43Number}
 use Rattle.methods.specs.declared.Kind.{Kind}
 use Rattle.methods.specs.declared.Kind.the-variants.{Question, Done}
 use Rattle.methods.specs.Step.{Progress, refused, asking, ended}

@@ -7,7 +7,7 @@ use lib.Dec.{T}
 use lib.Ieee.{Float, binary64, fits, isNan}
 use lib.ListN.{length}
 use Rattle.loops.specs.Loop.{_!_}
-use Rattle.methods.specs.Sizes.{places, answerRoom}
+use Rattle.evaluation.specs.Sizes.{places, answerRoom}
 use Rattle.methods.specs.Step.{asking}
 use Rattle.engine.specs.Claims.{Between}
 use Rattle.session.specs.declared.Session.{Session}
@@ -77,7 +77,7 @@ Closed s = (wants : Wants) → fault (sessionTests wants s) ≡ cond (good7 want
 
 pub record Closes : Type 0 where
   pub opens : (r : Run) → number (openCall r .answer) ≡ 0 → Closed (openCall r .session)
-  pub call : (c : Call) (s : Session) → TypedCall c → length (s .answers) ≡ answerRoom → number (perform c s .told .answer) ≡ 0 → Closed (perform c s .told .session)
+  pub call : (c : Call) (s : Session) → TypedCall c → number (perform c s .told .answer) ≡ 0 → Closed (perform c s .told .session)
   -- so no call of a run from an accepted opening on meets 1 to 5 because of the session
   pub run : (r : Run) (cs : List Call) → number (openCall r .answer) ≡ 0 → TypedCalls cs → Closed (after (openCall r .session) cs)
 

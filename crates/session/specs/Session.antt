@@ -8,7 +8,8 @@ use lib.ListN.{length, replicate, take}
 use Rattle.loops.specs.Loop.{every, mat, _!_}
 use Rattle.float.specs.Arith.{zero+, finite, plusZero}
 use Rattle.evaluation.specs.Evaluation.{allFinite}
-use Rattle.methods.specs.Sizes.{places, answerRoom, etd2Number}
+use Rattle.evaluation.specs.Sizes.{places, answerRoom}
+use Rattle.methods.specs.Sizes.{etd2Number}
 use Rattle.methods.specs.declared.Point.{Point}
 use Rattle.methods.specs.Step.{Progress, refused, asking, questions, performStep}
 use Rattle.engine.specs.Engine.{perturbed, jacobianEntry, columnOk}

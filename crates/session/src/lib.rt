@@ -4,7 +4,7 @@ ghost use mathlib.Core.Path.{_≡_};
 ghost use Prim.Native.Nat.{ℕ, _+_, _-_, _*_, _≤_, _<_};
 ghost use lib.ListN.{length, take};
 ghost use Rattle.loops.specs.Loop.{mat};
-ghost use Rattle.methods.specs.Sizes.{places, answersKept, answerRoom};
+ghost use Rattle.evaluation.specs.Sizes.{places, answersKept, answerRoom};
 ghost use Rattle.methods.specs.Step.{refused, performStep};
 ghost use Rattle.methods.specs.Step.{progress as reached};
 ghost use Rattle.engine.specs.Engine.{jacobianEntry};
@@ -19,11 +19,11 @@ ghost use Rattle.session.specs.Bare.{bare, exponentialTests, exponential
 
 mod places;
 
+use evaluation::PLACES;
+use evaluation::ROOM;
 use methods::ETD2;
 use methods::EXPRB32;
 use methods::EXPRB43;
-use methods::PLACES;
-use methods::ROOM;
 
 // The room of a Jacobian, row by row.
 pub const JACOBIAN: usize = PLACES * PLACES;
@@ -299,17 +299,21 @@ fn session_fault(wants: Wants, s: Session) -> u8
     if !good2(s) {
         return 2;
     }
-    if !good7(wants, s) {
+    let attempt = s.attempt;
+    let in_phase = good7(wants, s);
+    let tolerances = good4(s);
+    let step = good5(attempt, s.step);
+    let numbers = good3(s);
+    if !in_phase {
         return 7;
     }
-    if !good4(s) {
+    if !tolerances {
         return 4;
     }
-    let attempt = s.attempt;
-    if !good5(attempt, s.step) {
+    if !step {
         return 5;
     }
-    if !good3(s) {
+    if !numbers {
         return 3;
     }
     0
@@ -357,7 +361,7 @@ fn attempt_fault(n: usize, step: f64, a: Attempt, jacobian: [f64; JACOBIAN], len
 fn largest_fault(largest: f64) -> u8
     ensures { λ r. ⌜ r ≡ fault (largestTests largest) ⌝ }
 {
-    if !(2.220446049250313e-16 <= largest) {
+    if !(float::EPSILON <= largest) {
         return 5;
     }
     0
@@ -679,11 +683,11 @@ fn show(old: Session, s: Session, out: &mut [f64]) -> Told
     ensures { λ r. ⌜ outcome r (now (out .exit)) ≡ shown old s (now (out .entry)) (progress s) ⌝ }
 {
     let w = run_pass(s);
+    let x = w.state;
+    places::copy_if(w.ok, x, &mut *out);
     if w.ok {
         let kind = w.kind;
-        let x = w.state;
         let e = w.error;
-        places::copy_out(x, &mut *out);
         let answer = answer_of(s, kind, x, e);
         return Told { answer, session: s };
     }
@@ -797,11 +801,12 @@ impl Session {
     pub fn accept(self, derivative: [f64; PLACES]) -> Told
         ensures { λ r. ⌜ r ≡ acceptCall self derivative ⌝ }
     {
+        let kept = self;
         let k = accept_fault(self, derivative);
         if k == 0 {
             return settle(self, derivative);
         }
-        refused(self, k)
+        refused(kept, k)
     }
 
     // Drops the attempt, if there is one.

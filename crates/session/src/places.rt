@@ -1,13 +1,14 @@
 // Places of an array: which are in use, and copies.
 ghost use mathlib.Core.Path.{_≡_};
+ghost use mathlib.Core.Bool.{cond};
 ghost use Prim.Native.Nat.{_*_, _≤_, _<_};
 ghost use lib.ListN.{length};
 ghost use Rattle.loops.specs.Loop.{tab, stores, _!_};
-ghost use Rattle.methods.specs.Sizes.{places, answersKept};
+ghost use Rattle.evaluation.specs.Sizes.{places, answersKept};
 ghost use Rattle.matrix.specs.Vector.{vec};
 ghost use Rattle.session.specs.Session.{clear, clearAnswers};
-use methods::PLACES;
-use methods::ROOM;
+use evaluation::PLACES;
+use evaluation::ROOM;
 
 // Whether the places from `used` on are +0.0.
 pub fn clear(x: &[f64], used: usize) -> bool
@@ -38,6 +39,16 @@ pub fn copy_out(x: [f64; PLACES], out: &mut [f64])
 {
     for i in 0..out.len() {
         out[i] = x[i];
+    }
+}
+
+// The same, where it is allowed; otherwise out is left as it is.
+pub fn copy_if(allowed: bool, x: [f64; PLACES], out: &mut [f64])
+    requires { ⌜ length (now out) ≤ places ⌝ }
+    ensures { λ _. ⌜ now (out .exit) ≡ cond allowed (tab (length (now (out .entry))) (λ i. x ! i)) (now (out .entry)) ⌝ }
+{
+    if allowed {
+        copy_out(x, out);
     }
 }
 

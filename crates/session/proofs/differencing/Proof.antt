@@ -1,6 +1,6 @@
 -- `session::differencing` meets its contract. Assumes nothing.
-use native.Mathlib.Omega.{arith}
 use borrow.Author.Needs.{needs}
+use native.Mathlib.Omega.{arith}
 use mathlib.Core.Path.{sym}
 use borrow.Author.Tests.{lt-ltb, le-ltb}
 use lib.Seq.{length-take-le}
@@ -14,17 +14,62 @@ unfolding differencing
 differencing-spec =
     tie.close
     (tie.spec
-    (λ c κs. (c .before .before .before .before .pre .0 .small, (omega arith, c .before .before .before .before .pre .1 .1 .1)))
-    (λ c κs. c .before .before .before .before .before .before .pre .0 .small)
+    (λ c κs.
+    let c4 = c .before .before .before .before in
+    (c4 .pre .0 .small, (omega arith, c4 .pre .1 .1 .1)))
+    (λ c κs.
+    let c4 = c .before .before .before .before in
+    let c6 = c4 .before .before in
+    c6 .pre .0 .small)
     (λ c κs. search needs)
-    (λ c. rw (lt-ltb _ _ (c .before .before .before .before .if1 .taken), ← (rw (c .before .before .before .before .before .before .before .before .pre .1 .1 .0) at (c .before .before .before .columns-ok .ensures)), c .before .before .if2 .taken, ← (c .before .perturbed .ensures)) (c .asked .ensures))
+    (λ c.
+    let c1 = c .before in
+    let c2 = c1 .before in
+    let c3 = c2 .before in
+    let c4 = c3 .before in
+    let c8 = c4 .before .before .before .before in
+    let columns = rw (c8 .pre .1 .1 .0) at (c3 .columns-ok .ensures) in
+    rw (lt-ltb _ _ (c4 .if1 .taken), ← columns, c2 .if2 .taken, ← (c1 .perturbed .ensures)) (c .asked .ensures))
     (λ c κs. search needs)
-    (λ c. rw (lt-ltb _ _ (c .before .before .before .if1 .taken), ← (rw (c .before .before .before .before .before .before .before .pre .1 .1 .0) at (c .before .before .columns-ok .ensures)), c .before .if2 .left) (c .not-allowed .ensures))
-    (λ c κs. (c .before .before .before .before .pre .0 .small, (omega arith, c .before .before .before .before .pre .1 .1 .1)))
-    (λ c. omega (arith, area (c .before .before .before .before .before .before .pre .0 .small)))
-    (λ c. area (c .before .before .before .before .before .before .pre .0 .small))
-    (λ c. sym (length-take-le _ _ (area (c .before .before .before .before .before .before .before .pre .0 .small))))
-    (λ c κs. (c .before .before .before .before .before .before .before .pre .0, ((omega arith, c .before .before .before .before .before .before .before .pre .1 .0), (c .before .before .before .before .before .before .before .pre .1 .1, length-take-le _ _ (area (c .before .before .before .before .before .before .before .pre .0 .small))))))
-    (λ c. rw (le-ltb _ _ (c .before .before .before .before .before .if1 .left), ← (rw (c .before .before .before .before .before .before .before .before .before .pre .1 .1 .0) at (c .before .before .before .before .columns-ok2 .ensures)), c .before .before .before .if3 .taken) (c .before .stepped-from .ensures))
+    (λ c.
+    let c1 = c .before in
+    let c2 = c1 .before in
+    let c3 = c2 .before in
+    let c7 = c3 .before .before .before .before in
+    let columns = rw (c7 .pre .1 .1 .0) at (c2 .columns-ok .ensures) in
+    rw (lt-ltb _ _ (c3 .if1 .taken), ← columns, c1 .if2 .left) (c .not-allowed .ensures))
+    (λ c κs.
+    let c4 = c .before .before .before .before in
+    (c4 .pre .0 .small, (omega arith, c4 .pre .1 .1 .1)))
+    (λ c.
+    let c4 = c .before .before .before .before in
+    let c6 = c4 .before .before in
+    omega (arith, area (c6 .pre .0 .small)))
+    (λ c.
+    let c4 = c .before .before .before .before in
+    let c6 = c4 .before .before in
+    area (c6 .pre .0 .small))
+    (λ c.
+    let c4 = c .before .before .before .before in
+    let c7 = c4 .before .before .before in
+    sym (length-take-le _ _ (area (c7 .pre .0 .small))))
+    (λ c κs.
+    let c4 = c .before .before .before .before in
+    let c7 = c4 .before .before .before in
+    (c7 .pre .0, ((omega arith, c7 .pre .1 .0), (c7 .pre .1 .1, length-take-le _ _ (area (c7 .pre .0 .small))))))
+    (λ c.
+    let c1 = c .before in
+    let c3 = c1 .before .before in
+    let c4 = c3 .before in
+    let c5 = c4 .before in
+    let c9 = c5 .before .before .before .before in
+    let columns = rw (c9 .pre .1 .1 .0) at (c4 .columns-ok2 .ensures) in
+    rw (le-ltb _ _ (c5 .if1 .left), ← columns, c3 .if3 .taken) (c1 .stepped-from .ensures))
     (λ c κs. search needs)
-    (λ c. rw (le-ltb _ _ (c .before .before .before .if1 .left), ← (rw (c .before .before .before .before .before .before .before .pre .1 .1 .0) at (c .before .before .columns-ok2 .ensures)), c .before .if3 .left) (c .not-allowed2 .ensures)))
+    (λ c.
+    let c1 = c .before in
+    let c2 = c1 .before in
+    let c3 = c2 .before in
+    let c7 = c3 .before .before .before .before in
+    let columns = rw (c7 .pre .1 .1 .0) at (c2 .columns-ok2 .ensures) in
+    rw (le-ltb _ _ (c3 .if1 .left), ← columns, c1 .if3 .left) (c .not-allowed2 .ensures)))

@@ -1,9 +1,10 @@
 -- `session::exponential_fault` meets its contract. Assumes nothing.
 use borrow.Author.Needs.{needs}
 use native.Mathlib.Omega.{arith}
+use Rattle.loops.proofs.Bools.{cond-and}
 use Rattle.session.specs.Tests.{fault}
 use Rattle.session.specs.Bare.{exponentialTests}
-use Rattle.session.proofs.Laws.{cond-and, area20, size20}
+use Rattle.session.proofs.Laws.{area20, size20}
 use Rattle.session.proofs.exponential_fault.Statement.{statement}
 use Rattle.session.proofs.exponential_fault.Tie as tie
 

@@ -20,4 +20,10 @@ good3-spec =
     (λ c κs. search needs)
     (λ c. search needs)
     (λ c κs. search needs)
-    (λ c. rw (c .all-finite5 .ensures, c .before .before .all-finite4 .ensures, c .before .before .before .before .all-finite3 .ensures, c .before .before .before .before .before .before .all-finite2 .ensures, c .before .before .before .before .before .before .before .before .all-finite .ensures, c .before .before .before .before .before .before .before .before .before .before .finite .ensures)))
+    (λ c.
+    let c2 = c .before .before in
+    let c4 = c2 .before .before in
+    let c6 = c4 .before .before in
+    let c8 = c6 .before .before in
+    let c10 = c8 .before .before in
+    rw (c .all-finite5 .ensures, c2 .all-finite4 .ensures, c4 .all-finite3 .ensures, c6 .all-finite2 .ensures, c8 .all-finite .ensures, c10 .finite .ensures)))

@@ -1,10 +1,11 @@
 -- `session::phi_fault` meets its contract. Assumes nothing.
 use borrow.Author.Needs.{needs}
 use native.Mathlib.Omega.{arith}
+use Rattle.loops.proofs.Bools.{cond-and}
 use Rattle.session.specs.Session.{sizeOk}
 use Rattle.session.specs.Tests.{fault}
 use Rattle.session.specs.Bare.{phiTests}
-use Rattle.session.proofs.Laws.{cond-and, area, order-size}
+use Rattle.session.proofs.Laws.{area, order-size}
 use Rattle.session.proofs.phi_fault.Statement.{statement}
 use Rattle.session.proofs.phi_fault.Tie as tie
 

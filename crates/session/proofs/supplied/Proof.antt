@@ -17,15 +17,12 @@ use Rattle.session.proofs.supplied.Tie as tie
 inside : {n : ℕ} (x : List Float) → n ≤ 16 → length (map {A = Float} {B = Float} (λ v. v) x) ≡ 256 → n * n ≤ length x
 inside {n} x h e = omega (arith, area h, e, length-map {A = Float} {B = Float} x (λ v. v))
 
--- what stands at the call of perform_step
-abbrev entry : tie.After-answers2 → tie.Start
-entry c = c .before .before .before .before .before
+-- the Jacobian's places hold its n² entries
+room : (c : tie.Start) → c .args .s .n * c .args .s .n ≤ length (c .args .s .jacobian)
+room c = inside (c .args .s .jacobian) (c .pre .0 .small) (c .good .0 .1 .1 .1 .1 .1 .1 .1 .1 .1 .1 .1 .1 .1 .0 .1 .0 .1)
 
-dimension : (c : tie.After-answers2) → Sized (entry c .args .s .n) (take (entry c .args .s .n * entry c .args .s .n) (entry c .args .s .jacobian))
-dimension c =
-    let sound = entry c .pre .0 in
-    let fits = inside (entry c .args .s .jacobian) (sound .small) (entry c .good .0 .1 .1 .1 .1 .1 .1 .1 .1 .1 .1 .1 .1 .1 .0 .1 .0 .1) in
-    record { some = sound .some; small = sound .small; square = length-take-le _ _ fits }
+dimension : (c : tie.Start) → Sized (c .args .s .n) (take (c .args .s .n * c .args .s .n) (c .args .s .jacobian))
+dimension c = record { some = c .pre .0 .some; small = c .pre .0 .small; square = length-take-le _ _ (room c) }
 
 pub supplied-spec : {M : Type 1} → statement M
 unfolding pointOf
@@ -34,8 +31,12 @@ supplied-spec =
     (tie.spec
     (λ c. omega (arith, area (c .pre .0 .small)))
     (λ c κs. search needs)
-    (λ c. inside (c .before .before .before .args .s .jacobian) (c .before .before .before .pre .0 .small) (c .before .before .before .good .0 .1 .1 .1 .1 .1 .1 .1 .1 .1 .1 .1 .1 .1 .0 .1 .0 .1))
-    (λ c. sym (length-take-le _ _ (inside (c .before .before .before .before .args .s .jacobian) (c .before .before .before .before .pre .0 .small) (c .before .before .before .before .good .0 .1 .1 .1 .1 .1 .1 .1 .1 .1 .1 .1 .1 .1 .0 .1 .0 .1))))
+    (λ c. room (c .before .before .before))
+    (λ c. sym (length-take-le _ _ (room (c .before .before .before .before))))
     (λ c. search needs)
-    (λ c κs. rw (c .before .before .point-of .ensures) (record { sized = dimension c; room = search needs; early = omega arith }))
-    (λ c. let e : c .before .before .before .before .before .before .args .s .count - 0 ≡ c .before .before .before .before .before .before .args .s .count = omega arith in rw (e, ← (c .before .before .before .point-of .ensures)) (c .perform-step .ensures)))
+    (λ c κs. rw (c .before .before .point-of .ensures) (record { sized = dimension (c .before .before .before .before .before); room = search needs; early = omega arith }))
+    (λ c.
+    let c3 = c .before .before .before in
+    let count = c3 .before .before .before .args .s .count in
+    let e : count - 0 ≡ count = omega arith in
+    rw (e, ← (c3 .point-of .ensures)) (c .perform-step .ensures)))
