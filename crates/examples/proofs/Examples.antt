@@ -17,10 +17,14 @@ use Rattle.methods.specs.Pass.{also, _>>=_, answer, replay}
 use Rattle.methods.specs.Schemes.{lawsonEuler, norsettEuler, etd2, exprb32}
 use Rattle.methods.specs.Step.{pass, questions, finish, performStep}
 use Rattle.engine.specs.Engine.{delta, perturbedEntry, perturbed, jacobianEntry, columnOk, ratio, errorNorm, rate, estimate, clamp, firstStep}
-use Rattle.session.specs.Session.{clear, clearAnswers, usedHistory, usedJacobian, stepClear, wanted, sizeOk, runPlaces, attemptPlaces, good1, historyOk, good2, inPhase, good7, positive, good4, stepOk, good5, good3, fault, isHeld, pointOf, question, differencing, progressOf, progress}
-use Rattle.session.specs.Calls.{unless, except, opened, nothing, begun, answered, hasError, readyOf, shown, faultVector, attemptOf, faultBegin, openCall, beginCall, supplyCall, firstStepCall}
-use Rattle.session.specs.Bare.{otherwise, instead, faultExponential, faultNorm, exponentialCall, normCall}
-use Rattle.examples.specs.Examples.{only, lent, resting, remembering, begins, supplies, Gives, single, Squares, asked, differenced, jacobianOf, Examples}
+use Rattle.session.specs.Tests.{fault, unless}
+use Rattle.session.specs.Session.{fresh, idle, clear, clearAnswers, usedHistory, usedJacobian, stepClear, wanted, phaseWith, phaseAt, phaseOf, phaseNumber, admits}
+use Rattle.session.specs.Session.{sizeOk, runPlaces, attemptPlaces, good1, historyOk, good2, good7, positive, good4, stepOk, good5, good3, sessionTests}
+use Rattle.session.specs.Session.{isHeld, pointOf, question, differencing, progressOf, progress}
+use Rattle.session.specs.Calls.{opened, nothing, begun, answered, hasError, readyOf, shown, vectorTests, attemptOf, attemptTests, largestTests}
+use Rattle.session.specs.Calls.{beginTests, supplyTests, firstStepTests, openCall, beginCall, supplyCall, firstStepCall}
+use Rattle.session.specs.Bare.{exponentialTests, normTests, exponentialCall, normCall}
+use Rattle.examples.specs.Examples.{only, lent, running, resting, remembering, begins, supplies, Gives, single, Squares, asked, differenced, jacobianOf, Examples}
 
 -- ---- what is opened to compute
 
@@ -39,19 +43,26 @@ unfoldable schemes : ℕ
 unfolding clean joined checked over augmentedEntry augmented phiAction phiTerm expAction also _>>=_ answer replay lawsonEuler norsettEuler etd2 exprb32 pass questions finish performStep
 schemes = 0
 
+-- the differencing, and the tests of a session
+unfoldable tests : ℕ
+unfolding delta perturbedEntry perturbed jacobianEntry columnOk clear clearAnswers usedHistory usedJacobian stepClear wanted phaseWith phaseAt phaseOf phaseNumber admits
+    sizeOk runPlaces attemptPlaces good1 historyOk good2 good7 positive good4 stepOk good5 good3 sessionTests fault unless
+tests = 0
+
 -- the calls
 unfoldable calls : ℕ
-unfolding delta perturbedEntry perturbed jacobianEntry columnOk clear clearAnswers usedHistory usedJacobian stepClear wanted sizeOk runPlaces attemptPlaces good1 historyOk good2 inPhase good7 positive good4 stepOk good5 good3 fault isHeld pointOf question differencing progressOf progress unless except opened nothing begun answered hasError readyOf shown faultVector attemptOf faultBegin openCall beginCall supplyCall firstStepCall only lent resting remembering begins supplies Gives asked differenced
+unfolding isHeld pointOf question differencing progressOf progress fresh idle opened nothing begun answered hasError readyOf shown vectorTests attemptOf attemptTests largestTests
+    beginTests supplyTests firstStepTests openCall beginCall supplyCall firstStepCall only lent running resting remembering begins supplies Gives asked differenced
 calls = 0
 
 -- the bare calls, the error norm and the first step
 unfoldable bare : ℕ
-unfolding floorRoot nearestRoot root ratio errorNorm rate estimate clamp firstStep otherwise instead faultExponential faultNorm exponentialCall normCall single Squares jacobianOf
+unfolding floorRoot nearestRoot root ratio errorNorm rate estimate clamp firstStep exponentialTests normTests exponentialCall normCall single Squares jacobianOf
 bare = 0
 
 -- ---- THE STATEMENT
 pub examples : Examples
-unfolding doubles matrices schemes calls bare
+unfolding doubles matrices schemes tests calls bare
 examples = record {
   norsettEuler = (refl, refl);
   norsettEuler-half = (refl, refl);

@@ -101,7 +101,17 @@ pub extern "C" fn vunchrem_open(
     told: &mut [f64],
 ) -> u32
     ensures { λ r. ⌜ Open (vectors (now (state .entry)) (now (derivative .entry)) (now (previous .entry)))
-        (openCall (schemeOf scheme) n «time» (now (state .entry)) (now (derivative .entry)) «relative» «absolute» (historyOf held) (now (previous .entry))) r
+        (openCall (record {
+          scheme = schemeOf scheme;
+          n = n;
+          time = «time»;
+          state = now (state .entry);
+          derivative = now (derivative .entry);
+          relative = «relative»;
+          absolute = «absolute»;
+          history = historyOf held;
+          previous = now (previous .entry);
+        })) r
         (slices (now (numbers .entry)) (now (figures .entry)) (now (words .entry)) (now (told .entry)))
         (slices (now (numbers .exit)) (now (figures .exit)) (now (words .exit)) (now (told .exit))) ⌝ }
 {

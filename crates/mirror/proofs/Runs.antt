@@ -22,8 +22,7 @@ use Rattle.session.specs.Session.{Run, Trial, idle, fresh, usedHistory, usedJac
 use Rattle.session.specs.Calls.{Outcome, nothing, opened, attemptOf}
 use Rattle.session.specs.Runs.{Call, perform, opening, run}
 use Rattle.mirror.specs.Mirror.{flip, flipped, flippedOpening, FlippedCall, begins, supplies, accepts, drops, firstSteps, FlippedCalls, no-call, and-call, wishesDifference, Undifferenced, Zero, Agrees, Alike, MirroredRun, MirroredTrial, Mirrored, SameOutcome, SameOutcomes, no-outcome, and-outcome, MirroredRuns}
-use Rattle.mirror.proofs.Floats.{Mirror, m-nan, m-inf, m-fin, m-zero, m-flip, agrees, false-unlike}
-use Rattle.mirror.proofs.Vectors.{past-end}
+use Rattle.mirror.proofs.Floats.{m-flip, agrees}
 use Rattle.mirror.proofs.Places.{At, at-nan, Placed, in-use, blank-m}
 use Rattle.mirror.proofs.Sessions.{Runs, run-m, Trials, trial-m, live, Sessions, void, alive, idle-m}
 use Rattle.mirror.proofs.Calls.{Outcomes, bare-m, begin-m, difference-m, supply-m, accept-m, drop-m, firstStep-m, begin-void, supply-void, accept-void, drop-void, firstStep-void, open-m}
