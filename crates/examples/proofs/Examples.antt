@@ -35,7 +35,8 @@ doubles = 0
 
 -- loops, vectors and matrices
 unfoldable matrices : ℕ
-unfolding iter every from tab mat fill stores allFinite identity matMul divAll addAll maxAbs rowSum norm admitted enough least squarings scaled nextTerm small series taylor squared exponential zeros vec matVec plus subtract scale axpy axpyAll combine
+unfolding iter every from tab mat fill stores allFinite identity matMul divAll addAll maxAbs rowSum norm admitted enough least squarings scaled nextTerm small series taylor squared exponential
+    zeros vec matVec plus subtract scale axpy axpyAll combine
 matrices = 0
 
 -- the schemes

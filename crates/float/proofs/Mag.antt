@@ -2,7 +2,8 @@
 -- Assumes nothing.
 use mathlib.Core.Path.{_≡_, sym, ap, _∙_, subst}
 use Prim.Native.Nat.{ℕ, _+_, _-_, _*_, _/_, _^_, _≤_, _<_}
-use native.Mathlib.Nat.{lt-of-mul-lt-mul-right, add-mul, mul-one, mul-comm, mul-assoc, mul-left-comm, mul-right-comm, mul-mul-mul-comm, mul-sub, mul-le-mul-right, mul-le-mul-left, le-of-mul-le-mul-right, div-eq-of-eq-mul-left}
+use native.Mathlib.Nat.{lt-of-mul-lt-mul-right, add-mul, mul-one, mul-comm, mul-assoc, mul-left-comm, mul-right-comm, mul-mul-mul-comm, mul-sub, mul-le-mul-right, mul-le-mul-left}
+use native.Mathlib.Nat.{le-of-mul-le-mul-right, div-eq-of-eq-mul-left}
 use native.Mathlib.Omega.{arith}
 use mathlib.Core.Bool.{Bool}
 use lib.Ieee.{Float, nan, inf, fin, Format, emax, low, up, down, units, sum, add, mul, div}
@@ -89,7 +90,8 @@ plus-cross A B c X Y U h k = let a = add-mul A B U in let b = add-mul X Y c in o
 
 pub minus-cross : (A B c X Y U : ℕ) → A * U ≡ X * c → B * U ≡ Y * c → (A - B) * U ≡ (X - Y) * c
 minus-cross A B c X Y U h k =
-    mul-comm (A - B) U ∙ mul-sub U A B ∙ ap (λ (z : ℕ). z - U * B) (mul-comm U A ∙ h ∙ mul-comm X c) ∙ ap (λ (z : ℕ). c * X - z) (mul-comm U B ∙ k ∙ mul-comm Y c) ∙ sym (mul-sub c X Y) ∙ mul-comm c (X - Y)
+    mul-comm (A - B) U ∙ mul-sub U A B ∙ ap (λ (z : ℕ). z - U * B) (mul-comm U A ∙ h ∙ mul-comm X c) ∙ ap (λ (z : ℕ). c * X - z) (mul-comm U B ∙ k ∙ mul-comm Y c) ∙ sym
+    (mul-sub c X Y) ∙ mul-comm c (X - Y)
 
 pub common : (a p q X U : ℕ) → a * U ≡ X * p → a * q * U ≡ X * (p * q)
 common a p q X U h = mul-right-comm a q U ∙ ap (λ (z : ℕ). z * q) h ∙ mul-assoc X p q

@@ -19,7 +19,8 @@ unfolding root odd trailingZeros ofFields ofBits
 none = refl
 
 -- Why `Strict` has its clause `edge`: without it the double below 1 would have two roots, itself and 1 = 2 ^ 52 * 2 ^ 1022 units.
-pub one-passes : (square ((2 * 2 ^ 52 - 1) * 2 ^ 1022) < 4 * inSquares (ofBits binary64 0x3fef_ffff_ffff_ffff)) × (4 * inSquares (ofBits binary64 0x3fef_ffff_ffff_ffff) < square ((2 * 2 ^ 52 + 1) * 2 ^ 1022))
+pub one-passes : (square ((2 * 2 ^ 52 - 1) * 2 ^ 1022) < 4 * inSquares (ofBits binary64 0x3fef_ffff_ffff_ffff)) ×
+    (4 * inSquares (ofBits binary64 0x3fef_ffff_ffff_ffff) < square ((2 * 2 ^ 52 + 1) * 2 ^ 1022))
 unfolding inSquares odd trailingZeros ofFields ofBits
 one-passes = (lit< tt, lit< tt)
 

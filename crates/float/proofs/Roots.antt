@@ -3,7 +3,8 @@
 use mathlib.Core.Path.{_≡_, refl, sym, ap, _∙_, subst}
 use Prim.Native.Nat.{ℕ, zero, suc, _+_, _-_, _*_, _/_, _%_, _^_, _≤_, _<_}
 use native.Mathlib.Decide.{decLe}
-use native.Mathlib.Nat.{le-trans, le-of-eq, le-antisymm, le-of-mul-le-mul-right, mul-le-mul-left, mul-assoc, mul-comm, sub-add-cancel, pow-suc, zero-lt-suc, lt-of-lt-of-le, lt-of-not-le, mul-one, mul-le-mul, pow-le-pow-left, eq-zero-or-pos, add-sub-of-le}
+use native.Mathlib.Nat.{le-trans, le-of-eq, le-antisymm, le-of-mul-le-mul-right, mul-le-mul-left, mul-assoc, mul-comm, sub-add-cancel, pow-suc, zero-lt-suc, lt-of-lt-of-le, lt-of-not-le}
+use native.Mathlib.Nat.{mul-one, mul-le-mul, pow-le-pow-left, eq-zero-or-pos, add-sub-of-le}
 use native.Mathlib.Omega.{arith}
 use mathlib.Core.Logic.{⊎-elim, inl, inr}
 use mathlib.Core.Bool.{Bool, true, false, not, cond}
@@ -56,7 +57,8 @@ unfolding ofBits ofFields odd
 none-at-zero p = p
 
 positive-bits : (b : ℕ) → b < 2 ^ 64 → T (positive (ofBits binary64 b)) → (0 < b) × (b < 0x7ff0_0000_0000_0000)
-positive-bits b h p = (⊎-elim (λ z. absurd (none-at-zero (subst (λ (x : ℕ). T (positive (ofBits binary64 x))) z p))) (λ l. l) (eq-zero-or-pos b), lt-of-not-le (λ (g : 0x7ff0_0000_0000_0000 ≤ b). big g))
+positive-bits b h p =
+    (⊎-elim (λ z. absurd (none-at-zero (subst (λ (x : ℕ). T (positive (ofBits binary64 x))) z p))) (λ l. l) (eq-zero-or-pos b), lt-of-not-le (λ (g : 0x7ff0_0000_0000_0000 ≤ b). big g))
   where
     ones : (b : ℕ) → 0x7ff0_0000_0000_0000 ≤ b → b < 2 ^ 63 → b / 2 ^ 52 ≡ 2047
     ones b g l = omega arith
@@ -131,7 +133,9 @@ bits-parts b p h =
     let r = rooted (e .0 * 4 ^ 26) in record {
       q = cond (ltb (r .0) (r .1)) (suc (r .0)) (r .0);
       k = e .1 - 26;
-      encloses = subst (λ (n : ℕ). Strict n (cond (ltb (r .0) (r .1)) (suc (r .0)) (r .0)) (e .1 - 26)) (sym (bits-squares b h)) (parts-enclosed (squaresOf b) (s .0) (s .1) (e .0) (e .1) (r .0) (r .1) (s .2) (e .2) (r .2));
+      encloses =
+          subst (λ (n : ℕ). Strict n (cond (ltb (r .0) (r .1)) (suc (r .0)) (r .0)) (e .1 - 26)) (sym (bits-squares b h))
+          (parts-enclosed (squaresOf b) (s .0) (s .1) (e .0) (e .1) (r .0) (r .1) (s .2) (e .2) (r .2));
       least = omega (arith, e .2 .least);
       most = parts-power (e .1) (e .2 .most);
       is = root-of-bits b p h ∙ parts-root (squaresOf b) (s .0) (s .1) (e .0) (e .1) (r .0) (r .1) (s .2) (e .2) (r .2);
@@ -152,7 +156,8 @@ module _ (x : Float) (f : T (fits binary64 x)) (p : T (positive x)) where
   root-nearest =
       let r = root-enclosed in
       subst (NearestTo (inSquares x)) (sym (r .is))
-      (enclosed-nearest (inSquares x) (r .q) (r .k) (odd 53 false (r .q) (r .k) 1074) (r .encloses) (fits-in (r .q) (r .k) (r .encloses .room) (r .most)) (odd-positive (r .q) (r .k) (lt-of-lt-of-le (lit≤ tt) (r .encloses .lead))) (odd-units false (r .q) (r .k)))
+      (enclosed-nearest (inSquares x) (r .q) (r .k) (odd 53 false (r .q) (r .k) 1074) (r .encloses) (fits-in (r .q) (r .k) (r .encloses .room) (r .most))
+      (odd-positive (r .q) (r .k) (lt-of-lt-of-le (lit≤ tt) (r .encloses .lead))) (odd-units false (r .q) (r .k)))
 
   -- and no other double is
   pub root-only : (r : Float) → NearestTo (inSquares x) r → r ≡ root binary64 x

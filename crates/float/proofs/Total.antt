@@ -44,7 +44,8 @@ last-or h = omega arith
 pub entry-le : (n : ℕ) (f : ℕ → ℕ) (i : ℕ) → i < n → f i ≤ total n f
 unfolding total
 entry-le zero f i h = absurd (not-le-of-lt h zero-le)
-entry-le (suc n) f i h = elim (eq-or-lt-of-le (last-or h)) [ inl e ↦ subst (λ (z : ℕ). f z ≤ total n f + f n) (sym e) (right (total n f) (f n)) | inr l ↦ left (f i) (total n f) (f n) (entry-le n f i l) ]
+entry-le (suc n) f i h =
+    elim (eq-or-lt-of-le (last-or h)) [ inl e ↦ subst (λ (z : ℕ). f z ≤ total n f + f n) (sym e) (right (total n f) (f n)) | inr l ↦ left (f i) (total n f) (f n) (entry-le n f i l) ]
   where
     right : (a b : ℕ) → b ≤ a + b
     right a b = omega arith

@@ -1,7 +1,8 @@
 -- One row of a Taylor term: the row sum of magnitudes shrinks to 9 / (16 * K) of the last term's, and a little. Assumes nothing.
 use mathlib.Core.Path.{_≡_, refl, sym, ap, _∙_, subst}
 use Prim.Native.Nat.{ℕ, zero, suc, _+_, _*_, _/_, _^_, _≤_, _<_, zero-le}
-use native.Mathlib.Nat.{le-trans, le-refl, le-of-eq, le-suc, suc-mul, add-mul, mul-comm, mul-assoc, mul-left-comm, mul-right-comm, mul-le-mul-right, mul-le-mul-left, mul-le-mul, add-le-add, le-of-mul-le-mul-right}
+use native.Mathlib.Nat.{le-trans, le-refl, le-of-eq, le-suc, suc-mul, add-mul, mul-comm, mul-assoc, mul-left-comm, mul-right-comm, mul-le-mul-right, mul-le-mul-left, mul-le-mul, add-le-add}
+use native.Mathlib.Nat.{le-of-mul-le-mul-right}
 use native.Mathlib.Omega.{arith}
 use mathlib.Core.Bool.{false}
 use lib.Dec.{T, leb, leb→le, lit≤}
@@ -56,7 +57,8 @@ grown m t p j E g h k = let a : suc j * E ≡ j * E + E = suc-mul j E in omega a
 abbrev pub Summed : (ℕ → Float) → (ℕ → Float) → ℕ → ℕ → Type 0
 Summed l r E j = On64 (dot j l r) × (mag64 (dot j l r) ≤ total j (λ k. mag64 (l k ⊗ r k)) + j * E)
 
-module _ (n : ℕ) (l r : ℕ → Float) (S E : ℕ) (on : (k : ℕ) → k < n → On64 (l k ⊗ r k)) (sum-le : total n (λ k. mag64 (l k ⊗ r k)) ≤ S) (enough : S + n * E + half binary64 ≤ E * (2 * half binary64)) (room : Room (S + n * E)) where
+module _ (n : ℕ) (l r : ℕ → Float) (S E : ℕ) (on : (k : ℕ) → k < n → On64 (l k ⊗ r k)) (sum-le : total n (λ k. mag64 (l k ⊗ r k)) ≤ S)
+    (enough : S + n * E + half binary64 ≤ E * (2 * half binary64)) (room : Room (S + n * E)) where
   pub dot-bound : (j : ℕ) → j ≤ n → Summed l r E j
   unfolding dot iter total
   dot-bound zero h = (zero-on, le-trans (le-of-eq zero-mag) zero-le)
@@ -95,7 +97,8 @@ cancel-unit U S R β n u nn b h =
     let z : 1025 * β * R ≡ 1025 * (β * R) = mul-assoc 1025 β R in
     let w : U * 1024 * S ≡ U * S * 1024 = mul-right-comm U 1024 S in
     let l : S * 1048576 * U ≡ U * S * 1048576 = simp (mul-assoc, mul-comm, mul-left-comm) in
-    let r : (543250 * R + 419430400) * U ≡ U * R * 543250 + 419430400 * U = add-mul (543250 * R) 419430400 U ∙ ap (λ (t : ℕ). t + 419430400 * U) (mul-assoc 543250 R U ∙ mul-comm 543250 (R * U) ∙ ap (λ (t : ℕ). t * 543250) (mul-comm R U)) in
+    let r : (543250 * R + 419430400) * U ≡ U * R * 543250 + 419430400 * U = add-mul (543250 * R) 419430400 U ∙ ap (λ (t : ℕ). t + 419430400 * U)
+    (mul-assoc 543250 R U ∙ mul-comm 543250 (R * U) ∙ ap (λ (t : ℕ). t * 543250) (mul-comm R U)) in
     le-of-mul-le-mul-right (omega arith) u
 
 -- the error bound of each addition in a column whose products' magnitudes sum to S
@@ -133,7 +136,8 @@ final n K R X D h k x d =
     let e : D * (16 * K) ≡ D * K * 16 = simp (mul-assoc, mul-comm, mul-left-comm) in
     omega arith
 
-module _ (n : ℕ) (t : ℕ → Float) (b : ℕ → ℕ → Float) (R β : ℕ) (n20 : n ≤ 20) (t-on : (k : ℕ) → k < n → On64 (t k)) (t-le : total n (λ k. mag64 (t k)) ≤ R) (R-le : R ≤ unit64) (b-on : (k j : ℕ) → k < n → j < n → On64 (b k j)) (b-le : (k : ℕ) → k < n → total n (λ j. mag64 (b k j)) ≤ β) (β-le : β * 1024 ≤ unit64 * 530) where
+module _ (n : ℕ) (t : ℕ → Float) (b : ℕ → ℕ → Float) (R β : ℕ) (n20 : n ≤ 20) (t-on : (k : ℕ) → k < n → On64 (t k)) (t-le : total n (λ k. mag64 (t k)) ≤ R) (R-le : R ≤ unit64)
+    (b-on : (k j : ℕ) → k < n → j < n → On64 (b k j)) (b-le : (k : ℕ) → k < n → total n (λ j. mag64 (b k j)) ≤ β) (β-le : β * 1024 ≤ unit64 * 530) where
   abbrev pub p : ℕ → ℕ → ℕ
   p k j = mag64 (t k ⊗ b k j)
 
@@ -152,7 +156,8 @@ module _ (n : ℕ) (t : ℕ → Float) (b : ℕ → ℕ → Float) (R β : ℕ) 
   one-row : (k : ℕ) → k < n → unit64 * 1024 * total n (p k) ≤ 1025 * β * mag64 (t k) + n * (unit64 * 1024)
   one-row k hk =
       let T = mag64 (t k) in
-      let h = spread n (unit64 * 1024) (1025 * T) (unit64 * 1024) (p k) (λ j. mag64 (b k j)) (λ j hj. subst (λ (z : ℕ). unit64 * 1024 * p k j ≤ z + unit64 * 1024) (sym (mul-assoc 1025 T (mag64 (b k j)))) (crude (T * mag64 (b k j)) unit64 (p k j) (products k j hk hj .2))) in
+      let h = spread n (unit64 * 1024) (1025 * T) (unit64 * 1024) (p k) (λ j. mag64 (b k j))
+      (λ j hj. subst (λ (z : ℕ). unit64 * 1024 * p k j ≤ z + unit64 * 1024) (sym (mul-assoc 1025 T (mag64 (b k j)))) (crude (T * mag64 (b k j)) unit64 (p k j) (products k j hk hj .2))) in
       widen (unit64 * 1024 * total n (p k)) (1025 * T) (total n (λ j. mag64 (b k j))) β (n * (unit64 * 1024)) (1025 * β * T) h (b-le k hk) (mul-right-comm 1025 T β)
     where
       widen : (x a B β' d y : ℕ) → x ≤ a * B + d → B ≤ β' → a * β' ≡ y → x ≤ y + d
@@ -177,7 +182,8 @@ module _ (n : ℕ) (t : ℕ → Float) (b : ℕ → ℕ → Float) (R β : ℕ) 
   col-room j hj = err-room n (col j) unit64 n20 (le-trans (entry-le n col j hj) (S-le S R unit64 S-bound R-le big-unit)) big-unit
 
   pub dots : (j : ℕ) → j < n → Summed t (λ k. b k j) (err (col j)) n
-  dots j hj = dot-bound n t (λ k. b k j) (col j) (err (col j)) (λ k hk. products k j hk hj .0) (le-refl (col j)) (err-enough n (col j) n20) (two-units (col j + n * err (col j)) (col-room j hj)) n (le-refl n)
+  dots j hj =
+      dot-bound n t (λ k. b k j) (col j) (err (col j)) (λ k hk. products k j hk hj .0) (le-refl (col j)) (err-enough n (col j) n20) (two-units (col j + n * err (col j)) (col-room j hj)) n (le-refl n)
 
   abbrev pub X : ℕ
   X = total n (λ j. mag64 (dot n t (λ k. b k j)))

@@ -21,7 +21,8 @@ module _ (m : List Float) (n : ℕ) (ok : Bool) (x : Float) (h : Normed m n ok x
   pub norm-admitted : le x limit ≡ true
   norm-admitted = rw (h .largest) (norm-limit m n is-admitted)
 
-pub few : (m : List Float) (n : ℕ) (ok : Bool) (x : Float) (c : ℕ) (d : Float) → n ≤ 20 → length m ≡ n * n → ((p : ℕ) → T (fits binary64 (m ! p))) → Normed m n ok x → not ok ≡ false → Scaled x c d → taylor (scaled m c) n .terms ≤ 15
+pub few : (m : List Float) (n : ℕ) (ok : Bool) (x : Float) (c : ℕ) (d : Float) → n ≤ 20 → length m ≡ n * n → ((p : ℕ) → T (fits binary64 (m ! p))) → Normed m n ok x → not ok ≡ false
+    → Scaled x c d → taylor (scaled m c) n .terms ≤ 15
 unfolding exponential
 few m n ok x c d l w f h k s =
     rw (s .number, h .largest) (stops-at-15 m n (record { size = l; places = w; doubles = λ p _. f p; rows = is-admitted m n ok x h k }))

@@ -17,10 +17,6 @@ use Rattle.methods.specs.declared.Action.{Action}
 use Rattle.methods.specs.Phi.{checked, augmentedEntry, augmented, phiAction, expAction}
 use Rattle.methods.specs.Parts.{phiInto}
 
--- ---- places of a matrix
-pub row-small : (i n k : ℕ) → i < n → n ≤ k → (i * n + n ≤ n * n) × (n * n ≤ k * k)
-row-small i n k h l = (row-fits i n h, mul-le-mul l l)
-
 pub row-under : (p n k : ℕ) → p < n * n → n ≤ k → p / n < k
 row-under p n k h l = lt-of-lt-of-le (row-below p n h) l
 

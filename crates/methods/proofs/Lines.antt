@@ -1,10 +1,11 @@
 -- Replaying a pass line by line: S is where the code's record stands, and b what the exponentials have reported so far. Assumes nothing.
 use Prim.Native.Nat.{ℕ, zero, suc, _+_, _-_}
 use mathlib.Core.Path.{_≡_, refl, ap}
-use mathlib.Core.Bool.{Bool, true, false, cond, _&&_}
+use mathlib.Core.Bool.{Bool, true, false, cond, _&&_, and-assoc}
 use mathlib.Core.List.{List}
 use native.Mathlib.Omega.{arith}
 use lib.Ieee.{Float}
+use Rattle.loops.proofs.Bools.{cond-and}
 use Rattle.float.specs.Arith.{finite}
 use Rattle.evaluation.specs.Evaluation.{allFinite}
 use Rattle.methods.specs.declared.Tally.{Tally}
@@ -16,17 +17,9 @@ use Rattle.methods.specs.Parts.{mayAsk, mayEnd}
 use Rattle.methods.specs.Pass.{Pass, ask, done, also, now, try, question, _>>=_, Stand, fails, asks, ends, under, answer, replay}
 
 -- ---- reports
-cond-and : (a b : Bool) (x y : Stand) → cond (a && b) x y ≡ cond a (cond b x y) y
-cond-and true b x y = refl
-cond-and false b x y = refl
-
 ahead : (a b c d : Bool) (x : Stand) → cond (a && b && c && d) x fails ≡ cond a (cond (b && c && d) x fails) fails
 ahead true b c d x = refl
 ahead false b c d x = refl
-
-and-assoc : (a b c : Bool) → ((a && b) && c) ≡ (a && (b && c))
-and-assoc true b c = refl
-and-assoc false b c = refl
 
 under-clean : (s : Stand) → under clean s ≡ s
 unfolding under clean

@@ -85,7 +85,34 @@ module _ {n : ℕ} {σ : ℕ → Bool} where
   unfolding a54 combineAll moreAll
   a54-m h A X = action-m _ (action-m _ nothing-m (phiTerm-m (h ⊘ num 2) 2 (num 1) order-2 A X)) (a52-m h A X)
 
-ruleset parts = (bind-m, done-m, now-m, try-m, over-m, question-m, zeros-m, plus-m, minus-m, scale-m, axpy-m, combine-m, no-terms, one-term, matVec-m, phiAction-m, phiTerm-m, expAction-m, shifted-m, remainder-m, a52-m, a54-m, order-1, order-2, order-3, order-4)
+ruleset parts = (
+  bind-m,
+  done-m,
+  now-m,
+  try-m,
+  over-m,
+  question-m,
+  zeros-m,
+  plus-m,
+  minus-m,
+  scale-m,
+  axpy-m,
+  combine-m,
+  no-terms,
+  one-term,
+  matVec-m,
+  phiAction-m,
+  phiTerm-m,
+  expAction-m,
+  shifted-m,
+  remainder-m,
+  a52-m,
+  a54-m,
+  order-1,
+  order-2,
+  order-3,
+  order-4,
+)
 
 module _ {n : ℕ} {σ : ℕ → Bool} {a a' u u' f f' : List Float} (t h : Float) (A : Mats n σ a a') (U : Vecs n σ u u') (F : Vecs n σ f f') where
   lawsonEuler-m : Passes n σ (lawsonEuler n a u f h) (lawsonEuler n a' u' f' h)
@@ -221,7 +248,8 @@ pub data Points (n : ℕ) (σ : ℕ → Bool) : Point → Point → Type 0 where
       (record { n = n; time = t; step = h; state = u; f0 = f; held = held; previous = w })
       (record { n = n; time = t; step = h; state = u'; f0 = f'; held = held; previous = w' })
 
-pub pass-m : {n : ℕ} {σ : ℕ → Bool} {p p' : Point} {a a' v v' g g' : List Float} (k : ℕ) → Points n σ p p' → Mats n σ a a' → Vecs n σ v v' → Vecs n σ g g' → Passes n σ (pass k p a v g) (pass k p' a' v' g')
+pub pass-m : {n : ℕ} {σ : ℕ → Bool} {p p' : Point} {a a' v v' g g' : List Float} (k : ℕ) → Points n σ p p' → Mats n σ a a' → Vecs n σ v v' → Vecs n σ g g' → Passes n σ (pass k p a v g)
+    (pass k p' a' v' g')
 unfolding pass
 pass-m k (points t h held U F W) A B G =
     choose-m k

@@ -21,7 +21,8 @@ use Rattle.session.specs.Values.{isRefused}
 use Rattle.session.specs.Session.{Run, Trial, idle, fresh, usedHistory, usedJacobian, inAnswers}
 use Rattle.session.specs.Calls.{Outcome, nothing, opened, attemptOf}
 use Rattle.session.specs.Runs.{Call, perform, opening, run}
-use Rattle.mirror.specs.Mirror.{flip, flipped, flippedOpening, FlippedCall, begins, supplies, accepts, drops, firstSteps, FlippedCalls, no-call, and-call, wishesDifference, Undifferenced, Zero, Agrees, Alike, MirroredRun, MirroredTrial, Mirrored, SameOutcome, SameOutcomes, no-outcome, and-outcome, MirroredRuns}
+use Rattle.mirror.specs.Mirror.{flip, flipped, flippedOpening, FlippedCall, begins, supplies, accepts, drops, firstSteps, FlippedCalls, no-call, and-call, wishesDifference}
+use Rattle.mirror.specs.Mirror.{Undifferenced, Zero, Agrees, Alike, MirroredRun, MirroredTrial, Mirrored, SameOutcome, SameOutcomes, no-outcome, and-outcome, MirroredRuns}
 use Rattle.mirror.proofs.Floats.{m-flip, agrees}
 use Rattle.mirror.proofs.Places.{At, at-nan, Placed, in-use, blank-m}
 use Rattle.mirror.proofs.Sessions.{Runs, run-m, Trials, trial-m, live, Sessions, void, alive, idle-m}

@@ -2,11 +2,14 @@
 use Rattle.loops.proofs.Bools.{both-true}
 use Rattle.methods.specs.Step.{questions, Progress, refused, progress as reached, progressKind}
 use Rattle.session.specs.Tests.{Tests, fault, condition, numbered, unless}
-use Rattle.session.specs.Session.{schemes, largest, Run, joined, trialOf, fresh, wanted, wantedBy, phaseWith, phaseAt, phaseOf, phaseNumber, admits, sizeOk, runPlaces, attemptPlaces, good1, historyOk, good2, good7, sessionTests, usedJacobian, Sound, clear}
+use Rattle.session.specs.Session.{schemes, largest, Run, joined, trialOf, fresh, wanted, wantedBy, phaseWith, phaseAt, phaseOf, phaseNumber, admits, sizeOk, runPlaces, attemptPlaces}
+use Rattle.session.specs.Session.{good1, historyOk, good2, good7, sessionTests, usedJacobian, Sound, clear}
+use Rattle.methods.proofs.Shape.{questions-small}
 use Rattle.evaluation.specs.Sizes.{answersKept}
 use Rattle.methods.specs.Vectors.{Sized}
 use Rattle.session.specs.Bare.{exponentialTests, phiTests, normTests}
-use Rattle.session.specs.Calls.{Outcome, outcome, tell, refuse, refuseLent, opened, nothing, openCall, begun, answered, attemptOf, vectorTests, attemptTests, beginTests, supplyTests, acceptTests, firstStepTests, shown, arrived, settled, answerOf}
+use Rattle.session.specs.Calls.{Outcome, outcome, tell, refuse, refuseLent, opened, nothing, openCall, begun, answered, attemptOf, vectorTests, attemptTests, beginTests, supplyTests}
+use Rattle.session.specs.Calls.{acceptTests, firstStepTests, shown, arrived, settled, answerOf}
 use Prim.Native.Nat.{ℕ, zero, suc, _+_, _*_, _≤_, _<_}
 use mathlib.Core.Path.{_≡_, refl, sym, subst}
 use mathlib.Core.Bool.{Bool, true, false, cond, not, _&&_, false≢true}
@@ -33,21 +36,6 @@ use Rattle.session.specs.declared.Wants.{Wants}
 use Rattle.session.specs.declared.Wants.the-variants.{Any, Only}
 use Rattle.session.specs.declared.Wish.{Wish}
 use Rattle.session.proofs.Tests.{passes, both-pass, fault-append, unless-refused}
-
--- a list whose entries are all at most 4
-allSmall : List ℕ → Bool
-allSmall [] = true
-allSmall (x ∷ xs) = leb x 4 && allSmall xs
-
-small-at : (l : List ℕ) → allSmall l ≡ true → (k : ℕ) → getD l k 0 ≤ 4
-unfolding allSmall
-small-at [] e k = omega arith
-small-at (x ∷ xs) e zero = leb-true x 4 (both-true (leb x 4) (allSmall xs) e .0)
-small-at (x ∷ xs) e (suc k) = small-at xs (both-true (leb x 4) (allSmall xs) e .1) k
-
-pub questions-small : (k : ℕ) → questions k ≤ 4
-unfolding questions allSmall
-questions-small k = small-at (0 ∷ 0 ∷ 1 ∷ 2 ∷ 3 ∷ 4 ∷ 2 ∷ 2 ∷ 2 ∷ 2 ∷ 2 ∷ 2 ∷ 2 ∷ 0 ∷ 1 ∷ 2 ∷ []) refl k
 
 pub wanted-small : (k n : ℕ) (a : Attempt) → n ≤ 16 → wanted k n a ≤ answersKept
 unfolding wanted
@@ -232,7 +220,8 @@ order-size n b c e = size-both n (both-true (leb 1 n && leb n 16) b (both-true (
 
 pub exponential-sized : (size : ℕ) (m : List Float) (lent : ℕ) → fault (exponentialTests size m lent) ≡ 0 → (size ≤ 20) × ((length m ≡ size * size) × (lent ≡ size * size))
 exponential-sized size m lent e =
-    let p = both-true (leb 1 size && leb size 20) (eqb (length m) (size * size) && eqb lent (size * size)) (unfold condition exponentialTests in passes (exponentialTests size m lent) (unfold numbered exponentialTests in refl) e 1) in
+    let p = both-true (leb 1 size && leb size 20) (eqb (length m) (size * size) && eqb lent (size * size))
+    (unfold condition exponentialTests in passes (exponentialTests size m lent) (unfold numbered exponentialTests in refl) e 1) in
     let q = both-true (eqb (length m) (size * size)) (eqb lent (size * size)) (p .1) in
     (size20 size (p .0), (eqb-true (length m) (size * size) (q .0), eqb-true lent (size * size) (q .1)))
 

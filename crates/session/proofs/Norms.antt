@@ -12,6 +12,7 @@ use Rattle.loops.proofs.Bools.{both-true}
 use Rattle.loops.proofs.Loops.{every-at}
 use Rattle.loops.specs.Loop.{_!_}
 use Rattle.float.specs.Arith.{zero+, finite}
+use Rattle.float.proofs.Order.{zero-number}
 use Rattle.evaluation.specs.Evaluation.{allFinite}
 use Rattle.methods.specs.Step.{Progress, refused, asking, ended}
 use Rattle.engine.specs.Engine.{errorNorm}
@@ -74,10 +75,6 @@ measured wants s f l e =
       double = f;
       state = record { places = l; finite = g .state-finite };
     }
-
-zero-number : isNan zero+ ≡ false
-unfolding isNan ofBits ofFields odd
-zero-number = refl
 
 norm-of : (s : Session) → Measured s → (x e g : List Float) → Wholes (s .n) x e g → isNan (errorNorm (s .n) (s .relative) (s .absolute) (s .state) x e) ≡ false
 norm-of s m x e g w =

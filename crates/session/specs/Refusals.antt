@@ -19,7 +19,8 @@ use Rattle.session.specs.declared.Wants.the-variants.{Any}
 use Rattle.session.specs.Tests.{Tests}
 use Rattle.session.specs.Values.{number}
 use Rattle.session.specs.Session.{Run, sessionTests, progress}
-use Rattle.session.specs.Calls.{Outcome, opened, nothing, begun, answered, attemptOf, beginTests, supplyTests, acceptTests, firstStepTests, openCall, beginCall, supplyCall, acceptCall, dropCall, firstStepCall}
+use Rattle.session.specs.Calls.{Outcome, opened, nothing, begun, answered, attemptOf, beginTests, supplyTests, acceptTests, firstStepTests, openCall, beginCall, supplyCall, acceptCall}
+use Rattle.session.specs.Calls.{dropCall, firstStepCall}
 use Rattle.session.specs.Bare.{Bare, exponentialTests, phiTests, normTests, exponentialCall, phiCall, normCall}
 
 -- ---- which number

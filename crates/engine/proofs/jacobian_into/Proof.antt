@@ -26,7 +26,10 @@ jacobian-into-spec =
     (λ c. (omega arith, omega arith, refl, fill-none _ _))
     (λ c. size-some (c .before .loop .p) (c .before .before .before .before .args .n) (omega arith))
     (λ c. size-some (c .before .loop .p) (c .before .before .before .before .args .n) (omega arith))
-    (λ c κs. omega (arith, row-below (c .before .loop .p) (c .before .before .before .before .args .n) (omega arith), column-below (c .before .loop .p) (c .before .before .before .before .args .n) (omega arith)))
+    (λ c κs.
+    let c1 = c .before in
+    let c4 = c1 .before .before .before in
+    omega (arith, row-below (c1 .loop .p) (c4 .args .n) (omega arith), column-below (c1 .loop .p) (c4 .args .n) (omega arith)))
     (λ c. omega arith)
     (λ c. omega arith)
     (λ c. omega arith)

@@ -30,6 +30,12 @@ scaled-error-norm-spec =
     (λ c. omega arith)
     (λ c. omega arith)
     (λ c. (omega arith, omega arith, sum-step _ _ _ _ (c .before .before .before .loop .inv .2) (rw (c .powi22 .ensures, c .before .ratio2 .ensures)) (omega arith)))
-    (λ c. float-small _ (c .before .before .before .before .before .pre .1))
+    (λ c.
+    let c4 = c .before .before .before .before in
+    let c5 = c4 .before in
+    float-small _ (c5 .pre .1))
     (λ c κs. tt)
-    (λ c. rw (c .sqrt .ensures, sum-end _ _ (c .before .before .before .before .before .before .args .n) _ (c .before .before .before .loop .inv .2) (omega arith))))
+    (λ c.
+    let c3 = c .before .before .before in
+    let c6 = c3 .before .before .before in
+    rw (c .sqrt .ensures, sum-end _ _ (c6 .args .n) _ (c3 .loop .inv .2) (omega arith))))

@@ -29,8 +29,12 @@ shr-digit c = omega arith
 
 digit-requires : tie.Need-digit-requires Inv-loop μ-loop
 digit-requires c κs =
-    let l = c .before .loop in
-    (omega (arith, read-small (c .before .before .args .v) (l .i) (l .root) (l .rest) (c .before .before .pre) (l .inv .1)), l .inv .1 .short, mod-lt (c .before .before .args .v / 2 ^ (2 * (l .i - 1))) (lit≤ tt))
+    let l = c .before .loop in (
+      omega (arith, read-small (c .before .before .args .v) (l .i) (l .root) (l .rest) (c .before .before .pre) (l .inv .1)),
+      l .inv .1 .short,
+      mod-lt
+          (c .before .before .args .v / 2 ^ (2 * (l .i - 1))) (lit≤ tt),
+    )
 
 loop-less : tie.Need-loop-less Inv-loop μ-loop
 loop-less c = omega arith

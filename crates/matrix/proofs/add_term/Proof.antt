@@ -57,7 +57,10 @@ abs-requires-2 : tie.Need-abs-requires-2 Inv-loop μ-loop
 abs-requires-2 c κs = omega arith
 
 raise-requires-2 : tie.Need-raise-requires-2 Inv-loop μ-loop
-raise-requires-2 c κs = is-number _ _ _ _ one-number (c .before .before .before .before .before .before .loop .inv .7)
+raise-requires-2 c κs =
+    let c4 = c .before .before .before .before in
+    let c6 = c4 .before .before in
+    is-number _ _ _ _ one-number (c6 .loop .inv .7)
 
 add-p : tie.Need-add-p Inv-loop μ-loop
 add-p c = omega arith

@@ -20,24 +20,41 @@ array-borrow-prefix-even : tie.Need-array-borrow-prefix-even
 array-borrow-prefix-even c = mul-le-mul (c .before .before .before .before .pre .0 .0) (c .before .before .before .before .pre .0 .0)
 
 slice-aggregate-exp-into-2 : tie.Need-slice-aggregate-exp-into-2
-slice-aggregate-exp-into-2 c = sym (room _ 4 (c .before .before .before .before .before .pre .0 .0))
+slice-aggregate-exp-into-2 c =
+    let c4 = c .before .before .before .before in
+    let c5 = c4 .before in
+    sym (room _ 4 (c5 .pre .0 .0))
 
 array-borrow-prefix-odd : tie.Need-array-borrow-prefix-odd
-array-borrow-prefix-odd c = mul-le-mul (c .before .before .before .before .before .pre .0 .0) (c .before .before .before .before .before .pre .0 .0)
+array-borrow-prefix-odd c =
+    let c4 = c .before .before .before .before in
+    let c5 = c4 .before in
+    mul-le-mul (c5 .pre .0 .0) (c5 .pre .0 .0)
 
 slice-aggregate-exp-into-3 : tie.Need-slice-aggregate-exp-into-3
-slice-aggregate-exp-into-3 c = sym (room _ 4 (c .before .before .before .before .before .before .pre .0 .0))
+slice-aggregate-exp-into-3 c =
+    let c4 = c .before .before .before .before in
+    let c6 = c4 .before .before in
+    sym (room _ 4 (c6 .pre .0 .0))
 
 exp-into-requires : tie.Need-exp-into-requires
 exp-into-requires c κs =
-    let free = room _ 4 (c .before .before .before .before .before .before .pre .0 .0) in
-    ((omega arith, c .before .before .before .before .before .before .pre .0 .1), ((c .before .before .before .before .before .before .pre .1 .0 .0, c .before .before .before .before .before .before .pre .1 .0 .1, free, free, free), c .before .before .before .before .before .before .pre .1 .1))
+    let free = room _ 4 (c .before .before .before .before .before .before .pre .0 .0) in (
+      (omega arith, c .before .before .before .before .before .before .pre .0 .1),
+      (
+        (c .before .before .before .before .before .before .pre .1 .0 .0, c .before .before .before .before .before .before .pre .1 .0 .1, free, free, free),
+        c .before .before .before .before .before .before .pre .1 .1,
+      ),
+    )
 
 same-length : tie.Need-same-length
 same-length c = search needs
 
 returns : tie.Need-returns
-returns c = c .before .before .before .before .before .exp-into .ensures
+returns c =
+    let c4 = c .before .before .before .before in
+    let c5 = c4 .before in
+    c5 .exp-into .ensures
 
 pub exp-small-spec : {M : Type 1} → statement M
 exp-small-spec =

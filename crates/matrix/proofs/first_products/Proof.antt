@@ -21,7 +21,10 @@ same-length : tie.Need-same-length
 same-length c = omega arith
 
 returns : tie.Need-returns
-returns c = record { some = omega arith; room = omega arith; even = omega arith; row = first-one _ _ _ _ _ _ _ (c .before .before .before .before .before .before .row-start .ensures .0) (c .before .before .set-one .ensures) }
+returns c =
+    let c2 = c .before .before in
+    let c6 = c2 .before .before .before .before in
+    record { some = omega arith; room = omega arith; even = omega arith; row = first-one _ _ _ _ _ _ _ (c6 .row-start .ensures .0) (c2 .set-one .ensures) }
 
 add-second : tie.Need-add-second
 add-second c = omega arith
@@ -42,7 +45,11 @@ same-length-2 : tie.Need-same-length-2
 same-length-2 c = omega arith
 
 returns-2 : tie.Need-returns-2
-returns-2 c = record { some = omega arith; room = omega arith; even = omega arith; row = first-two _ _ _ _ _ _ _ _ (c .before .before .before .before .before .before .before .before .row-start .ensures .0) (c .before .before .before .before .row-start2 .ensures .0) (c .before .before .set-two .ensures) }
+returns-2 c =
+    let c2 = c .before .before in
+    let c4 = c2 .before .before in
+    let c8 = c4 .before .before .before .before in
+    record { some = omega arith; room = omega arith; even = omega arith; row = first-two _ _ _ _ _ _ _ _ (c8 .row-start .ensures .0) (c4 .row-start2 .ensures .0) (c2 .set-two .ensures) }
 
 pub first-products-spec : {M : Type 1} → statement M
 first-products-spec =

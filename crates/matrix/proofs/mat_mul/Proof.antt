@@ -28,7 +28,10 @@ loop-less : tie.Need-loop-less Inv-loop μ-loop
 loop-less c = omega arith
 
 loop-again : tie.Need-loop-again Inv-loop μ-loop
-loop-again c = (omega arith, omega arith, product-step _ _ _ _ _ _ _ (c .before .before .before .before .before .loop .inv .2) (c .before .before .product-row .ensures))
+loop-again c =
+    let c2 = c .before .before in
+    let c5 = c2 .before .before .before in
+    (omega arith, omega arith, product-step _ _ _ _ _ _ _ (c5 .loop .inv .2) (c2 .product-row .ensures))
 
 same-length : tie.Need-same-length Inv-loop μ-loop
 same-length c = omega arith

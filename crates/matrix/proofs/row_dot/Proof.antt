@@ -53,7 +53,10 @@ loop-less : tie.Need-loop-less Inv-loop μ-loop
 loop-less c = omega arith
 
 loop-again : tie.Need-loop-again Inv-loop μ-loop
-loop-again c = (omega arith, omega arith, sum-step _ _ _ _ (c .before .before .before .loop .inv .2) (rw (c .before .before .before .before .before .before .row-start .ensures .0)) (omega arith))
+loop-again c =
+    let c3 = c .before .before .before in
+    let c6 = c3 .before .before .before in
+    (omega arith, omega arith, sum-step _ _ _ _ (c3 .loop .inv .2) (rw (c6 .row-start .ensures .0)) (omega arith))
 
 returns : tie.Need-returns Inv-loop μ-loop
 returns c = sum-end _ _ _ _ (c .before .loop .inv .2) (omega arith)

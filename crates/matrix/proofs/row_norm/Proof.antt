@@ -38,7 +38,11 @@ loop-less : tie.Need-loop-less Inv-loop μ-loop
 loop-less c = omega arith
 
 loop-again : tie.Need-loop-again Inv-loop μ-loop
-loop-again c = (omega arith, every-step _ _ _ _ (c .before .before .before .before .loop .inv .1) (rw (c .finite .ensures, c .before .before .row-sum .ensures)), most-step _ _ _ _ _ _ (c .before .before .before .before .loop .inv .2) (c .before .before .row-sum .ensures) (c .before .larger .ensures))
+loop-again c =
+    let c1 = c .before in
+    let c2 = c1 .before in
+    let c4 = c2 .before .before in
+    (omega arith, every-step _ _ _ _ (c4 .loop .inv .1) (rw (c .finite .ensures, c2 .row-sum .ensures)), most-step _ _ _ _ _ _ (c4 .loop .inv .2) (c2 .row-sum .ensures) (c1 .larger .ensures))
 
 returns : tie.Need-returns Inv-loop μ-loop
 unfolding admitted norm

@@ -28,7 +28,9 @@ loop-again c =
     (omega arith, half-next _ _ room (c .before .loop .inv .1), short-step _ _ _ (c .before .loop .inv .1) (c .loop-test .taken) (c .before .loop .inv .2))
 
 returns : tie.Need-returns Inv-loop μ-loop
-returns c = record { number = squarings-is _ _ _ (c .before .loop .inv .0) (c .before .loop .inv .1) (c .loop-test .left) (c .before .loop .inv .2); divides = twice-half _ _ (c .before .loop .inv .0) (c .before .loop .inv .1) }
+returns c =
+    let c1 = c .before in
+    record { number = squarings-is _ _ _ (c1 .loop .inv .0) (c1 .loop .inv .1) (c .loop-test .left) (c1 .loop .inv .2); divides = twice-half _ _ (c1 .loop .inv .0) (c1 .loop .inv .1) }
 
 pub scale-of-spec : {M : Type 1} → statement M
 scale-of-spec =

@@ -30,7 +30,12 @@ loop-less : tie.Need-loop-less Inv-loop μ-loop
 loop-less c = omega arith
 
 loop-again : tie.Need-loop-again Inv-loop μ-loop
-loop-again c = (omega arith, omega arith, omega arith, pair-step _ _ _ _ _ _ (c .before .before .before .before .before .before .before .mat-mul .ensures) (c .before .before .mat-mul2 .ensures) (c .before .before .before .before .before .before .before .before .before .before .before .loop .inv .3))
+loop-again c =
+    let c2 = c .before .before in
+    let c6 = c2 .before .before .before .before in
+    let c7 = c6 .before in
+    let c11 = c7 .before .before .before .before in
+    (omega arith, omega arith, omega arith, pair-step _ _ _ _ _ _ (c7 .mat-mul .ensures) (c2 .mat-mul2 .ensures) (c11 .loop .inv .3))
 
 same-length : tie.Need-same-length Inv-loop μ-loop
 same-length c = omega arith

@@ -20,7 +20,11 @@ same-length-2 : tie.Need-same-length-2
 same-length-2 c = search needs
 
 returns : tie.Need-returns
-returns c = turned _ _ _ _ _ _ _ _ _ (c .before .before .before .before .before .before .before .before .before .before .mat-mul .ensures) (c .before .before .before .before .add-term .ensures)
+returns c =
+    let c4 = c .before .before .before .before in
+    let c8 = c4 .before .before .before .before in
+    let c10 = c8 .before .before in
+    turned _ _ _ _ _ _ _ _ _ (c10 .mat-mul .ensures) (c4 .add-term .ensures)
 
 pub turn-spec : {M : Type 1} → statement M
 turn-spec =

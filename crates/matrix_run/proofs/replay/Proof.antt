@@ -44,8 +44,14 @@ slice-aggregate-exchange-4 c = sym (length-take-le _ (replicate 3201 0) (omega (
 
 exchange-requires : tie.Need-exchange-requires
 exchange-requires c κs =
-    let m = length-take-le _ (replicate 400 zero+) (mul-le-mul (c .before .before .before .before .pre) (c .before .before .before .before .pre)) in
-    ((c .before .before .before .before .pre, m, m), (length-take-le _ (replicate 3200 0) (omega (arith, mul-le-mul (c .before .before .before .before .pre) (c .before .before .before .before .pre))), length-take-le _ (replicate 3201 0) (omega (arith, mul-le-mul (c .before .before .before .before .pre) (c .before .before .before .before .pre)))))
+    let m = length-take-le _ (replicate 400 zero+) (mul-le-mul (c .before .before .before .before .pre) (c .before .before .before .before .pre)) in (
+      (c .before .before .before .before .pre, m, m),
+      (
+        length-take-le _ (replicate 3200 0) (omega (arith, mul-le-mul (c .before .before .before .before .pre) (c .before .before .before .before .pre))),
+        length-take-le _ (replicate 3201 0)
+            (omega (arith, mul-le-mul (c .before .before .before .before .pre) (c .before .before .before .before .pre))),
+      ),
+    )
 
 returns : tie.Need-returns
 returns c = search needs

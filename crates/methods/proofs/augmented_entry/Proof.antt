@@ -3,7 +3,7 @@ use Prim.Native.Nat.{_+_}
 use native.Mathlib.Omega.{arith}
 use borrow.Author.Tests.{lt-ltb, le-ltb, eq-eqb, ne-eqb}
 use Rattle.methods.specs.Phi.{augmentedEntry}
-use Rattle.methods.proofs.Laws.{row-small}
+use Rattle.loops.proofs.Places.{row-small}
 use Rattle.methods.proofs.augmented_entry.Statement.{statement}
 use Rattle.methods.proofs.augmented_entry.Tie as tie
 

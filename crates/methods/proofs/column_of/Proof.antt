@@ -5,7 +5,7 @@ use mathlib.Core.Path.{_≡_}
 use Rattle.matrix.specs.Vector.{vec}
 use Rattle.matrix.specs.Matrix.{at}
 use Rattle.matrix.proofs.Vectors.{vec-none, vec-step, vec-end}
-use Rattle.methods.proofs.Laws.{row-small}
+use Rattle.loops.proofs.Places.{row-small}
 use Rattle.methods.proofs.column_of.Statement.{statement}
 use Rattle.methods.proofs.column_of.Tie as tie
 

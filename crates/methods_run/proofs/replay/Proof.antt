@@ -17,5 +17,7 @@ replay-spec =
     (λ c. mul-le-mul (c .pre .1) (c .pre .1))
     (λ c. sym (length-take-le _ (replicate 256 zero+) (mul-le-mul (c .before .pre .1) (c .before .pre .1))))
     (λ c. search needs)
-    (λ c κs. (record { some = c .before .before .pre .0; small = c .before .before .pre .1; square = length-take-le _ (replicate 256 zero+) (mul-le-mul (c .before .before .pre .1) (c .before .before .pre .1)) }, (refl, c .before .before .pre .2)))
+    (λ c κs.
+    let c2 = c .before .before in
+    (record { some = c2 .pre .0; small = c2 .pre .1; square = length-take-le _ (replicate 256 zero+) (mul-le-mul (c2 .pre .1) (c2 .pre .1)) }, (refl, c2 .pre .2)))
     (λ c. search needs))

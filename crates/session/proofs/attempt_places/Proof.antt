@@ -15,4 +15,8 @@ attempt-places-spec =
     (λ c κs. search needs)
     (λ c. search needs)
     (λ c κs. search needs)
-    (λ c. rw (c .clear-answers .ensures, c .before .before .clear .ensures, c .before .before .before .used-jacobian .ensures, c .before .before .before .before .before .step-clear .ensures)))
+    (λ c.
+    let c2 = c .before .before in
+    let c3 = c2 .before in
+    let c5 = c3 .before .before in
+    rw (c .clear-answers .ensures, c2 .clear .ensures, c3 .used-jacobian .ensures, c5 .step-clear .ensures)))

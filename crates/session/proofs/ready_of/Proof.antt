@@ -10,7 +10,10 @@ ready-of-spec =
     tie.close
     (tie.spec
     (λ c κs. c .before .pre .small)
-    (λ c κs. (c .before .before .before .before .before .pre .some, c .before .before .before .before .before .pre .small))
+    (λ c κs.
+    let c4 = c .before .before .before .before in
+    let c5 = c4 .before in
+    (c5 .pre .some, c5 .pre .small))
     (λ c. omega (arith, c .before .before .before .before .wanted .ensures .1))
     (λ c. rw (c .before .if1 .taken, c .scaled-error-norm .ensures, c .before .before .before .before .wanted .ensures .0))
     (λ c. omega (arith, c .before .before .before .wanted .ensures .1))

@@ -16,4 +16,8 @@ run-places-spec =
     (λ c. search needs)
     (λ c κs. search needs)
     (λ c κs. search needs)
-    (λ c. rw (c .clear3 .ensures, c .before .used-history .ensures, c .before .before .before .clear2 .ensures, c .before .before .before .before .before .clear .ensures)))
+    (λ c.
+    let c1 = c .before in
+    let c3 = c1 .before .before in
+    let c5 = c3 .before .before in
+    rw (c .clear3 .ensures, c1 .used-history .ensures, c3 .clear2 .ensures, c5 .clear .ensures)))

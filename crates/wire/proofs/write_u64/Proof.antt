@@ -15,4 +15,7 @@ write-u64-spec =
     (λ c. search needs)
     (λ c κs. search needs)
     (λ c. search needs)
-    (λ c. rw (← c .before .before .before .before .before .before .write-u32 .ensures) (c .before .before .write-u322 .ensures)))
+    (λ c.
+    let c2 = c .before .before in
+    let c6 = c2 .before .before .before .before in
+    rw (← c6 .write-u32 .ensures) (c2 .write-u322 .ensures)))
