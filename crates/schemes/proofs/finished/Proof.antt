@@ -21,6 +21,4 @@ pub finished-spec : {M : Type 1} → statement M
 finished-spec =
     tie.close
     (tie.spec
-    (λ c.
-    let entry = c .before .before .before in
-    cases (entry .args .o .tally .ok) (entry .args .o .kind) _ _ _))
+    (λ c. cases _ _ _ _ _))
