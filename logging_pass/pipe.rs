@@ -11,7 +11,7 @@ pub enum Scheme {
     Etdrk2 = 2,
 }
 
-/// A call that was refused, by document 01's number.
+/// A call that was refused, by its number (docs/RULES.md).
 #[derive(Clone, Copy, Debug)]
 pub struct Refusal(u8);
 

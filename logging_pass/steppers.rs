@@ -14,7 +14,7 @@ const ABSOLUTE: f64 = 1e-6;
 pub enum Fault {
     /// The result is not finite.
     NotFinite,
-    /// Refused by document 01's number.
+    /// Refused by its number (docs/RULES.md).
     Refused(u8),
 }
 

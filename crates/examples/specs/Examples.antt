@@ -8,6 +8,7 @@ use Rattle.loops.specs.Loop.{mat, _!_}
 use Rattle.float.specs.Arith.{_⊗_, zero+}
 use Rattle.matrix.specs.Matrix.{norm, exponential}
 use Rattle.methods.specs.Numbers.{num, minus, decimal}
+use Rattle.methods.specs.Sizes.{etd2Number, exprb32Number}
 use Rattle.engine.specs.Engine.{jacobianEntry}
 use Rattle.session.specs.declared.Session.{Session}
 use Rattle.session.specs.declared.Told.{Told}
@@ -69,10 +70,10 @@ abbrev pub NorsettEuler : ℕ
 NorsettEuler = 1
 
 abbrev pub Etd2 : ℕ
-Etd2 = 13
+Etd2 = etd2Number
 
 abbrev pub Exprb32 : ℕ
-Exprb32 = 14
+Exprb32 = exprb32Number
 
 -- the matrix whose one entry has the bits b; the entry is its norm, and its exponential is squared s times
 unfoldable pub single : ℕ → List Float
