@@ -48,8 +48,17 @@ fn a_time_that_is_nan_goes_on() {
     let problem = OdeProblem::new(constant);
     for scheme in 0..16 {
         let mut stats = SolverStats::default();
-        let pass =
-            published::perform_step(scheme, &problem, &[1.0], f64::NAN, 1.0, &[2.0], &[0.0], None, &mut stats);
+        let pass = published::perform_step(
+            scheme,
+            &problem,
+            &[1.0],
+            f64::NAN,
+            1.0,
+            &[2.0],
+            &[0.0],
+            None,
+            &mut stats,
+        );
         assert!(pass.is_ok_and(|pass| pass.candidate[0].is_finite()), "scheme {scheme}");
     }
 }
