@@ -16,7 +16,8 @@ use Rattle.session.specs.declared.History.the-variants.{Missing, Held}
 use Rattle.session.specs.declared.Attempt.{Attempt}
 use Rattle.session.specs.declared.Attempt.the-variants.{None, Supplied, Differenced}
 use Rattle.image.specs.Image.{VECTOR, MATRIX, ANSWERS, NUMBERS, timeAt, stepAt, relativeAt, absoluteAt, stateAt, derivativeAt, previousAt, jacobianAt, answersAt}
-use Rattle.image.specs.Image.{schemeOf, historyOf, attemptOf, historyNumber, attemptNumber, part, first, arrays, joined, unpacked, packedNumbers, packedFigures, Typed, Holds, Inverse}
+use Rattle.image.specs.Image.{schemeOf, historyOf, attemptOf, historyNumber, attemptNumber, part, first, arrays, joined, unpacked, packedNumbers, packedFigures, Holds, Inverse}
+use Rattle.session.specs.Claims.{Typed}
 use Rattle.image.proofs.Laws.{spelt, stored, storedAll, all-stored, length-first, length-more}
 
 -- ---- numbers
@@ -107,7 +108,7 @@ module _ (s : Session) (t : Typed s) where
   unfolding packedFigures Sized
   kept j =
       found (arrays s) (s .time ∷ s .step ∷ s .relative ∷ s .absolute ∷ []) stateAt refl
-      (t .state, (t .derivative, (t .previous, (t .jacobian, (t .answers, tt))))) j
+      (t .state .places, (t .derivative .places, (t .previous .places, (t .jacobian .places, (t .answers .places, tt))))) j
 
   unpack-pack : unpacked (packedNumbers s) (packedFigures s) ≡ s
   unfolding unpacked packedNumbers packedFigures placeOf sizeOf arrayOf

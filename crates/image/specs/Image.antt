@@ -14,6 +14,7 @@ use Rattle.session.specs.declared.History.{History}
 use Rattle.session.specs.declared.History.the-variants.{Missing, Held}
 use Rattle.evaluation.specs.Sizes.{places, answerRoom}
 use Rattle.session.specs.Session.{jacobianRoom}
+use Rattle.session.specs.Claims.{Typed}
 use Rattle.session.specs.declared.Attempt.{Attempt}
 use Rattle.session.specs.declared.Attempt.the-variants.{None, Supplied, Differenced}
 use Rattle.session.specs.declared.Wish.{Wish}
@@ -165,15 +166,6 @@ unfoldable pub packedFigures : Session → List Float
 packedFigures s = (s .time ∷ s .step ∷ s .relative ∷ s .absolute ∷ []) ++ joined (arrays s)
 
 -- ---- packing and unpacking are each other's inverse (proofs/Inverse.antt)
-
--- a session of the code's types: its scheme is a byte, and its arrays have their lengths
-pub record Typed (s : Session) : Type 0 where
-  pub scheme : s .scheme < 256
-  pub state : length (s .state) ≡ VECTOR
-  pub derivative : length (s .derivative) ≡ VECTOR
-  pub previous : length (s .previous) ≡ VECTOR
-  pub jacobian : length (s .jacobian) ≡ MATRIX
-  pub answers : length (s .answers) ≡ ANSWERS
 
 -- slices that hold a session: their lengths, and numbers that their fields can hold
 pub record Holds (numbers' : List ℕ) (figures' : List Float) : Type 0 where

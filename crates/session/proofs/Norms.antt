@@ -28,7 +28,7 @@ use Rattle.session.specs.Tests.{fault, condition, numbered, unless}
 use Rattle.session.specs.Session.{Run, runOf, sizeOk, clear, positive, good4, sessionTests, progress}
 use Rattle.session.specs.Calls.{Outcome, refuseLent, begun, answered, attemptOf, hasError, readyOf, shown, beginTests, supplyTests, beginCall, supplyCall}
 use Rattle.session.specs.Bare.{normTests, normCall}
-use Rattle.session.specs.Claims.{Norms}
+use Rattle.session.specs.Claims.{Typed, Norms}
 use Rattle.session.proofs.Tests.{passes, unless-either}
 use Rattle.session.proofs.Laws.{size-both, fault-none, begin-passes, supply-passes}
 use Rattle.session.proofs.Closed.{passed-good}
@@ -62,8 +62,8 @@ record Measured (s : Session) : Type 0 where
   double : T (fits binary64 (s .absolute))
   state : Numbers (s .state)
 
-measured : (wants : Wants) (s : Session) → T (fits binary64 (s .absolute)) → length (s .state) ≡ 16 → fault (sessionTests wants s) ≡ 0 → Measured s
-measured wants s f l e =
+measured : (wants : Wants) (s : Session) → Typed s → fault (sessionTests wants s) ≡ 0 → Measured s
+measured wants s t e =
     let g = passed-good wants s e in
     let n = fault-none wants s e in
     let p = both-true (positive (s .relative)) (positive (s .absolute)) (unfold good4 in g .tolerances) in
@@ -72,8 +72,8 @@ measured wants s f l e =
       small = n .small;
       relative = positive-too (s .relative) (p .0);
       absolute = positive-too (s .absolute) (p .1);
-      double = f;
-      state = record { places = l; finite = g .state-finite };
+      double = t .absolute;
+      state = record { places = t .state .places; finite = g .state-finite };
     }
 
 norm-of : (s : Session) → Measured s → (x e g : List Float) → Wholes (s .n) x e g → isNan (errorNorm (s .n) (s .relative) (s .absolute) (s .state) x e) ≡ false
@@ -148,14 +148,14 @@ bare-number n relative absolute error state candidate f le ls lc h =
 pub norms : Norms
 unfolding beginCall supplyCall normCall
 norms = record {
-  begin = λ s step wish jacobian out f l.
+  begin = λ s step wish jacobian out t.
       let next = begun s step (attemptOf wish) jacobian in
       ready-number _ (call-number (fault (beginTests s step (attemptOf wish) jacobian (length out))) s out (shown s next out (progress next)) (λ e.
-      attempt-number s next out (run-measured s next (unfold begun in refl) (measured (Only Rest) s f l (begin-passes s step (attemptOf wish) jacobian (length out) e .0)))));
-  supply = λ s answer out f l.
+      attempt-number s next out (run-measured s next (unfold begun in refl) (measured (Only Rest) s t (begin-passes s step (attemptOf wish) jacobian (length out) e .0)))));
+  supply = λ s answer out t.
       let next = answered s answer in
       ready-number _ (call-number (fault (supplyTests s answer (length out))) s out (shown s next out (progress next)) (λ e.
-      attempt-number s next out (run-measured s next (unfold answered in refl) (measured (Only Asking) s f l (supply-passes s answer (length out) e .0)))));
+      attempt-number s next out (run-measured s next (unfold answered in refl) (measured (Only Asking) s t (supply-passes s answer (length out) e .0)))));
   bare = λ n relative absolute error state candidate f le ls lc.
       told-number _
       (unless-either (fault (normTests n relative absolute error state candidate)) Refused (Norm (errorNorm n relative absolute state candidate error)) Number

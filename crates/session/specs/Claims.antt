@@ -25,16 +25,23 @@ use Rattle.session.specs.Calls.{tell, nothing, openCall, beginCall, supp
 use Rattle.session.specs.Bare.{normCall}
 use Rattle.session.specs.Runs.{Call, begin, supply, accept, drop, firstStep, perform, after}
 
--- ---- sessions of the code's types: arrays of their lengths, and doubles in them
+-- ---- what the code's types give
 
+-- an array of doubles
 pub record Doubles (size : ℕ) (x : List Float) : Type 0 where
   pub places : length x ≡ size
   pub fit : (i : ℕ) → T (fits binary64 (x ! i))
 
+-- a session of the code's types: its scheme is a byte, its figures are doubles, its arrays have their lengths
 pub record Typed (s : Session) : Type 0 where
+  pub scheme : s .scheme < 256
+  pub time : T (fits binary64 (s .time))
+  pub relative : T (fits binary64 (s .relative))
   pub absolute : T (fits binary64 (s .absolute))
   pub step : T (fits binary64 (s .step))
-  pub state : length (s .state) ≡ places
+  pub state : Doubles places (s .state)
+  pub derivative : Doubles places (s .derivative)
+  pub previous : Doubles places (s .previous)
   pub jacobian : Doubles jacobianRoom (s .jacobian)
   pub answers : Doubles answerRoom (s .answers)
 
@@ -106,11 +113,11 @@ FirstSteps =
 
 -- ---- the error norm of Ready, and the bare one: never a NaN
 
--- for every session whose absolute tolerance is a double and whose state has 16 places, as the code's have, and whatever is handed in
+-- for every session of the code's types, and whatever is handed in
 pub record Norms : Type 0 where
-  pub begin : (s : Session) (step : Float) (wish : Wish) (jacobian out : List Float) → T (fits binary64 (s .absolute)) → length (s .state) ≡ places
+  pub begin : (s : Session) (step : Float) (wish : Wish) (jacobian out : List Float) → Typed s
       → (norm : Float) (rhs jacobians : ℕ) → beginCall s step wish jacobian out .told .answer ≡ Ready norm rhs jacobians → isNan norm ≡ false
-  pub supply : (s : Session) (answer out : List Float) → T (fits binary64 (s .absolute)) → length (s .state) ≡ places
+  pub supply : (s : Session) (answer out : List Float) → Typed s
       → (norm : Float) (rhs jacobians : ℕ) → supplyCall s answer out .told .answer ≡ Ready norm rhs jacobians → isNan norm ≡ false
   pub bare : (n : ℕ) (relative absolute : Float) (error state candidate : List Float)
       → T (fits binary64 absolute) → length error ≡ places → length state ≡ places → length candidate ≡ places
