@@ -17,7 +17,6 @@ use Rattle.session.specs.declared.Told.{Told}
 use Rattle.session.specs.declared.Answer.{Answer}
 use Rattle.session.specs.declared.Answer.the-variants.{Resting, FirstStep, Filled, Norm, Refused}
 use Rattle.session.specs.declared.Phase.the-variants.{Rest, Asking, Waiting}
-use Rattle.session.specs.declared.Wants.{Wants}
 use Rattle.session.specs.declared.Wants.the-variants.{Any, Only}
 use Rattle.session.specs.Tests.{Tests, fault, numbered, unless}
 use Rattle.session.specs.Values.{figured, valuesOf, number}
@@ -28,7 +27,7 @@ use Rattle.session.specs.Calls.{openCall, beginCall, supplyCall, acceptC
 use Rattle.session.specs.Bare.{Bare, bare, refuseBare, exponentialTests, phiTests, normTests, exponentialCall, phiCall, normCall}
 use Rattle.session.specs.Refusals.{First, works, Numbers, Kept, Unchanged, Unwritten, Refusals}
 use Rattle.session.proofs.Tests.{unless-either, call-first}
-use Rattle.session.proofs.Laws.{accept-passes}
+use Rattle.session.proofs.Laws.{session-numbered, accept-passes}
 use Rattle.session.proofs.Counts.{never-asking}
 
 -- ---- the number that is read off a result
@@ -58,10 +57,6 @@ supply-numbered s x lent = refl
 accept-numbered : (s : Session) (x : List Float) → numbered (acceptTests s x) ≡ true
 unfolding numbered acceptTests sessionTests vectorTests
 accept-numbered s x = refl
-
-session-numbered : (wants : Wants) (s : Session) → numbered (sessionTests wants s) ≡ true
-unfolding numbered sessionTests
-session-numbered wants s = refl
 
 first-step-numbered : (s : Session) (largest : Float) → numbered (firstStepTests s largest) ≡ true
 unfolding numbered firstStepTests sessionTests largestTests
