@@ -924,24 +924,23 @@ fn norm_fault(
 ) -> u8
     ensures { λ r. ⌜ r ≡ fault (normTests n relative absolute error state candidate) ⌝ }
 {
-    if (1 <= n)
+    if !((1 <= n)
         & (n <= PLACES)
         & places::clear(&error, n)
         & places::clear(&state, n)
-        & places::clear(&candidate, n)
-    {
-        if positive(relative) & positive(absolute) {
-            if evaluation::all_finite(&error)
-                & evaluation::all_finite(&state)
-                & evaluation::all_finite(&candidate)
-            {
-                return 0;
-            }
-            return 3;
-        }
-        return 4;
+        & places::clear(&candidate, n)) {
+        return 1;
     }
-    1
+    if positive(relative) & positive(absolute) {
+        if evaluation::all_finite(&error)
+            & evaluation::all_finite(&state)
+            & evaluation::all_finite(&candidate)
+        {
+            return 0;
+        }
+        return 3;
+    }
+    4
 }
 
 // The error norm of n entries.

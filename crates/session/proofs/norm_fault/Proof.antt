@@ -1,5 +1,9 @@
 -- `session::norm_fault` meets its contract. Assumes nothing.
 use borrow.Author.Needs.{needs}
+use borrow.Author.Tests.{not-true, not-false}
+use mathlib.Core.Bool.{_&&_}
+use lib.Dec.{leb}
+use Rattle.evaluation.specs.Sizes.{places}
 use Rattle.session.specs.Session.{sizeOk}
 use Rattle.session.specs.Tests.{fault}
 use Rattle.session.specs.Bare.{normTests}
@@ -17,6 +21,13 @@ norm-fault-spec =
     (λ c κs. search needs)
     (λ c. search needs)
     (λ c κs. search needs)
+    (λ c.
+    let c1 = c .before in
+    let c3 = c1 .before .before in
+    let c5 = c3 .before .before in
+    let c7 = c5 .before .before in
+    let first = not-true (leb 1 (c7 .args .n) && leb (c7 .args .n) places && c5 .clear .result && c3 .clear2 .result && c1 .clear3 .result) (c .if1 .taken) in
+    rw (← (c5 .clear .ensures), ← (c3 .clear2 .ensures), ← (c1 .clear3 .ensures), first))
     (λ c κs. search needs)
     (λ c κs. search needs)
     (λ c. search needs)
@@ -36,11 +47,13 @@ norm-fault-spec =
     let c11 = c10 .before in
     let c13 = c11 .before .before in
     let c15 = c13 .before .before in
+    let c17 = c15 .before .before in
+    let first = not-false (leb 1 (c17 .args .n) && leb (c17 .args .n) places && c15 .clear .result && c13 .clear2 .result && c11 .clear3 .result) (c10 .if1 .left) in
     rw (
       ← (c15 .clear .ensures),
       ← (c13 .clear2 .ensures),
       ← (c11 .clear3 .ensures),
-      c10 .if1 .taken,
+      first,
       ← (c9 .positive .ensures),
       ← (c8 .positive2 .ensures),
       c7 .if2 .taken,
@@ -60,11 +73,13 @@ norm-fault-spec =
     let c11 = c10 .before in
     let c13 = c11 .before .before in
     let c15 = c13 .before .before in
+    let c17 = c15 .before .before in
+    let first = not-false (leb 1 (c17 .args .n) && leb (c17 .args .n) places && c15 .clear .result && c13 .clear2 .result && c11 .clear3 .result) (c10 .if1 .left) in
     rw (
       ← (c15 .clear .ensures),
       ← (c13 .clear2 .ensures),
       ← (c11 .clear3 .ensures),
-      c10 .if1 .taken,
+      first,
       ← (c9 .positive .ensures),
       ← (c8 .positive2 .ensures),
       c7 .if2 .taken,
@@ -80,9 +95,6 @@ norm-fault-spec =
     let c4 = c3 .before in
     let c6 = c4 .before .before in
     let c8 = c6 .before .before in
-    rw (← (c8 .clear .ensures), ← (c6 .clear2 .ensures), ← (c4 .clear3 .ensures), c3 .if1 .taken, ← (c2 .positive .ensures), ← (c1 .positive2 .ensures), c .if2 .left))
-    (λ c.
-    let c1 = c .before in
-    let c3 = c1 .before .before in
-    let c5 = c3 .before .before in
-    rw (← (c5 .clear .ensures), ← (c3 .clear2 .ensures), ← (c1 .clear3 .ensures), c .if1 .left)))
+    let c10 = c8 .before .before in
+    let first = not-false (leb 1 (c10 .args .n) && leb (c10 .args .n) places && c8 .clear .result && c6 .clear2 .result && c4 .clear3 .result) (c3 .if1 .left) in
+    rw (← (c8 .clear .ensures), ← (c6 .clear2 .ensures), ← (c4 .clear3 .ensures), first, ← (c2 .positive .ensures), ← (c1 .positive2 .ensures), c .if2 .left)))
