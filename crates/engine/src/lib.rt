@@ -47,7 +47,8 @@ fn jacobian_entry(
     requires { ⌜ length (now answers) ≡ answerRoom ⌝ }
     ensures { λ r. ⌜ r ≡ jacobianEntry state f0 (now (answers .entry)) i j ⌝ }
 {
-    (answers[PLACES * j + i] - f0[i]) / delta(state[j])
+    let u = state[j];
+    (answers[PLACES * j + i] - f0[i]) / delta(u)
 }
 
 // Whether the entries of column j are finite.
