@@ -36,7 +36,9 @@ fn a_matrix_too_short_panics() {
 
 #[test]
 fn a_matrix_too_long_goes_on_with_its_first_entries() {
-    assert_eq!(published::matrix_exp(&[0.0, 0.0, 0.0, 0.0, 7.0], 2), published::matrix_exp(&[0.0; 4], 2));
+    // An entry more that would change the norm, the squarings and every entry, if it were looked at.
+    let entries = [0.5, 0.25, -0.125, 1.0, 1e300];
+    assert_eq!(published::matrix_exp(&entries, 2), published::matrix_exp(&entries[..4], 2));
 }
 
 #[test]

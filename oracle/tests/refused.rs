@@ -97,5 +97,6 @@ fn a_step_that_is_not_finite_hangs_or_errs() {
         assert_eq!(fate(scheme, &step_of(-1.0, f64::INFINITY)), HANGS, "scheme {scheme}");
         assert_eq!(fate(scheme, &step_of(0.0, f64::INFINITY)), Fate::Errs, "scheme {scheme}");
         assert_eq!(fate(scheme, &step_of(-1.0, f64::NAN)), Fate::Errs, "scheme {scheme}");
+        assert_eq!(fate(scheme, &step_of(0.0, f64::NAN)), Fate::Errs, "scheme {scheme}");
     }
 }
