@@ -1,3 +1,4 @@
+pub mod Columns
 pub mod Small
 pub mod Norm
 pub mod FirstStep

@@ -1,7 +1,8 @@
 -- The three steps of a loop's invariant, for each shape of loop: no turn yet, one turn more, and the end. Assumes nothing.
 use Prim.Native.Nat.{ℕ, zero, suc, _+_, _-_, _≤_, _<_}
 use mathlib.Core.Path.{_≡_, refl, sym, ap, _∙_}
-use mathlib.Core.Bool.{Bool, true, _&&_}
+use mathlib.Core.Bool.{Bool, true, _&&_, and-true}
+use mathlib.Core.Logic.{_≢_}
 use mathlib.Core.List.{List, [], _∷_, _++_, append-nil}
 use native.Mathlib.Numerals.{add-one}
 use native.Mathlib.Nat.{add-zero, add-suc, suc-add, zero-add, not-suc-le-zero}
@@ -43,6 +44,22 @@ pub every-ext : (n : ℕ) (f g : ℕ → Bool) → ((k : ℕ) → k < n → f k 
 unfolding every
 every-ext zero f g p = refl
 every-ext (suc n) f g p = rw (every-ext n f g (λ k h. p k (omega arith)), p n (omega arith))
+
+-- what holds of each holds of all
+pub every-of : (n : ℕ) (f : ℕ → Bool) → ((i : ℕ) → i < n → f i ≡ true) → every n f ≡ true
+unfolding every
+every-of zero f h = refl
+every-of (suc n) f h = rw (every-of n f (λ i l. h i (omega arith)), h n (omega arith))
+
+-- where all others hold, one test decides
+pub every-one : (n : ℕ) (f : ℕ → Bool) (j : ℕ) → j < n → ((i : ℕ) → i < n → i ≢ j → f i ≡ true) → every n f ≡ f j
+unfolding every
+every-one zero f j l h = absurd (not-suc-le-zero l)
+every-one (suc n) f j l h = go (ℕ-discrete j n) (λ k. every-one n f j k (λ i q ne. h i (omega arith) ne))
+  where
+    go : Dec (j ≡ n) → (j < n → every n f ≡ f j) → (every n f && f n) ≡ f j
+    go (yes e) ih = rw (e, every-of n f (λ i q. h i (omega arith) (omega arith)))
+    go (no ne) ih = rw (ih (omega arith), h n (omega arith) (omega arith)) (and-true (f j))
 
 -- ---- lists
 -- a place that is not there reads as a NaN

@@ -1,23 +1,20 @@
 -- The shape of the sixteen passes, by one walk over their trees. Assumes nothing.
-use Prim.Native.Nat.{ℕ, zero, suc, _+_, _-_, _≤_, _<_}
+use Prim.Native.Nat.{ℕ, zero, suc, _≤_, _<_}
 use mathlib.Core.Path.{_≡_, refl, subst}
 use mathlib.Core.Bool.{Bool, true, false, cond, _&&_}
 use mathlib.Core.List.{List, [], _∷_}
-use native.Mathlib.Nat.{not-suc-le-zero}
 use native.Mathlib.Omega.{arith}
 use lib.Dec.{leb}
 use lib.Ieee.{Float}
-use lib.ListN.{length, getD, replicate, List·getD-eq-default}
-use lib.Seq.{getD-append-add, getD-drop}
+use lib.ListN.{getD, List·getD-eq-default}
 use borrow.Author.Tests.{leb-true}
 use Rattle.loops.proofs.Bools.{both-true}
-use Rattle.loops.specs.Loop.{tab, mat, fill, _!_}
-use Rattle.loops.proofs.Loops.{length-tab}
-use Rattle.float.specs.Arith.{_⊗_, zero+, finite}
+use Rattle.loops.specs.Loop.{mat}
+use Rattle.float.specs.Arith.{_⊗_, finite}
 use Rattle.evaluation.specs.Evaluation.{allFinite}
 use Rattle.matrix.specs.Matrix.{at, admitted, exponential}
 use Rattle.matrix.specs.Vector.{zeros, vec, matVec}
-use Rattle.matrix.proofs.Vectors.{length-vec}
+use Rattle.matrix.proofs.Vectors.{length-vec, zeros-at, vec-clear}
 use Rattle.methods.specs.declared.Tally.{Tally}
 use Rattle.methods.specs.declared.Action.{Action}
 use Rattle.methods.specs.declared.Point.{Point}
@@ -30,24 +27,6 @@ use Rattle.methods.specs.Step.{pass, questions, Progress, refused, askin
 use Rattle.methods.specs.Shape.{Asks, asks-more, asks-none, Vector, Vectors, asked-vector, ended-vectors, Whole, Asked, Ended, AsksQuestions, PassVectors, AsksEarly, EndsLate}
 
 -- ---- vectors
-
--- +0.0 in every place
-zeros-at : (i : ℕ) → i < 16 → zeros ! i ≡ zero+
-unfolding zeros
-zeros-at i h = replicate-at 16 i h
-  where
-    replicate-at : (k j : ℕ) → j < k → replicate k zero+ ! j ≡ zero+
-    replicate-at zero j l = absurd (not-suc-le-zero l)
-    replicate-at (suc k) zero l = refl
-    replicate-at (suc k) (suc j) l = replicate-at k j (omega arith)
-
--- past n a vector is +0.0
-pub vec-clear : (n : ℕ) (f : ℕ → Float) (i : ℕ) → n ≤ i → i < 16 → vec n f ! i ≡ zero+
-unfolding vec fill
-vec-clear n f i h l =
-    let e : i ≡ length (tab n f) + (i - n) = rw length-tab (omega arith) in
-    let s : n + (i - n) ≡ i = omega arith in
-    rw (e, getD-append-add, getD-drop, s) (zeros-at i l)
 
 -- whatever `vec` makes is a vector
 pub vec-vector : (n : ℕ) (f : ℕ → Float) → n ≤ 16 → Vector n (vec n f)

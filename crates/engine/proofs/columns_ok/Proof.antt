@@ -21,7 +21,7 @@ columns-ok-spec =
     Inv-loop
     μ-loop
     (λ c. (omega arith, every-none _))
-    (λ c κs. omega arith)
+    (λ c κs. let c5 = c .before .before .before .before .before in (omega arith, (omega arith, (omega arith, c5 .pre .1 .1 .1))))
     (λ c. omega arith)
     (λ c. omega arith)
     (λ c. (omega arith, every-step _ _ _ _ (c .before .before .loop .inv .1) (c .column-ok .ensures)))

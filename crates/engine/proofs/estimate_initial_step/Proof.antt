@@ -1,5 +1,5 @@
 -- `engine::estimate_initial_step` meets its contract. Assumes nothing.
-use Prim.Native.Nat.{zero, _+_, _-_, _≤_}
+use Prim.Native.Nat.{_-_, _≤_}
 use native.Mathlib.Omega.{arith}
 use mathlib.Core.Path.{_≡_}
 use Rattle.engine.specs.Engine.{rate, firstStep}
@@ -15,18 +15,22 @@ abbrev μ-loop : tie.MeasureT-loop
 μ-loop n relative absolute u f largest scale₀ i₀ scale i = n - i
 
 pub estimate-initial-step-spec : {M : Type 1} → statement M
-unfolding firstStep
+unfolding firstStep rate
 estimate-initial-step-spec =
     tie.close
     (tie.spec
     Inv-loop
     μ-loop
     (λ c. (omega arith, most-none _ _))
-    (λ c κs. omega arith)
+    (λ c. omega arith)
+    (λ c. omega arith)
+    (λ c. omega arith)
+    (λ c. omega arith)
+    (λ c κs. tt)
     (λ c κs. tt)
     (λ c. omega arith)
     (λ c. omega arith)
-    (λ c. (omega arith, most-step _ _ _ _ _ _ (c .before .before .before .loop .inv .1) (c .before .rate .ensures) (c .larger .ensures)))
+    (λ c. (omega arith, most-step _ _ _ _ _ _ (c .before .before .before .before .before .loop .inv .1) (c .before .rate .ensures) (c .larger .ensures)))
     (λ c κs. tt)
     (λ c κs. tt)
-    (λ c. rw (c .clamp .ensures, c .before .estimate .ensures, most-end _ _ _ (c .before .before .before .before .args .n) _ (c .before .before .before .loop .inv .1) (omega arith))))
+    (λ c. rw (c .clamp .ensures, c .before .estimate .ensures, most-end _ _ _ (c .before .before .before .before .before .before .args .n) _ (c .before .before .before .loop .inv .1) (omega arith))))

@@ -10,10 +10,10 @@ use Rattle.engine.proofs.perturbed.Statement.{statement}
 use Rattle.engine.proofs.perturbed.Tie as tie
 
 abbrev Inv-loop : tie.InvT-loop
-Inv-loop j n u out₀ i₀ out i = (i ≤ n) × (out ≡ vec i (λ i. perturbedEntry (u ! i) i j))
+Inv-loop u j n out₀ i₀ out i = (i ≤ n) × (out ≡ vec i (λ i. perturbedEntry (u ! i) i j))
 
 abbrev μ-loop : tie.MeasureT-loop
-μ-loop j n u out₀ i₀ out i = n - i
+μ-loop u j n out₀ i₀ out i = n - i
 
 pub perturbed-spec : {M : Type 1} → statement M
 unfolding perturbed
@@ -30,5 +30,5 @@ perturbed-spec =
     (λ c. omega arith)
     (λ c. omega arith)
     (λ c. omega arith)
-    (λ c. (omega arith, vec-call _ _ _ _ (c .before .before .loop .inv .1) (omega arith) (c .perturbed-entry .ensures)))
+    (λ c. (omega arith, vec-call _ _ _ _ (c .before .before .before .loop .inv .1) (omega arith) (c .perturbed-entry .ensures)))
     (λ c. vec-end _ _ _ _ (c .before .loop .inv .1) (omega arith)))

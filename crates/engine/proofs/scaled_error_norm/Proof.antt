@@ -16,26 +16,32 @@ abbrev μ-loop : tie.MeasureT-loop
 μ-loop n relative absolute u v e sum₀ i₀ sum i = n - i
 
 pub scaled-error-norm-spec : {M : Type 1} → statement M
-unfolding errorNorm
+unfolding errorNorm ratio
 scaled-error-norm-spec =
     tie.close
     (tie.spec
     Inv-loop
     μ-loop
-    (λ c κs. omega arith)
+    (λ c. omega arith)
+    (λ c. omega arith)
+    (λ c. omega arith)
+    (λ c κs. tt)
     (λ c κs. tt)
     (λ c. (omega arith, omega arith, sum-first _ _ (rw (c .powi2 .ensures, c .before .ratio .ensures))))
-    (λ c κs. omega arith)
+    (λ c. omega arith)
+    (λ c. omega arith)
+    (λ c. omega arith)
+    (λ c. omega arith)
+    (λ c. omega arith)
+    (λ c. omega arith)
+    (λ c κs. tt)
     (λ c κs. tt)
     (λ c. omega arith)
     (λ c. omega arith)
-    (λ c. (omega arith, omega arith, sum-step _ _ _ _ (c .before .before .before .loop .inv .2) (rw (c .powi22 .ensures, c .before .ratio2 .ensures)) (omega arith)))
-    (λ c.
-    let c4 = c .before .before .before .before in
-    let c5 = c4 .before in
-    float-small _ (c5 .pre .1))
+    (λ c. (omega arith, omega arith, sum-step _ _ _ _ (c .before .before .before .before .before .before .loop .inv .2) (rw (c .powi22 .ensures, c .before .ratio2 .ensures)) (omega arith)))
+    (λ c. float-small _ (omega arith))
     (λ c κs. tt)
     (λ c.
     let c3 = c .before .before .before in
     let c6 = c3 .before .before .before in
-    rw (c .sqrt .ensures, sum-end _ _ (c6 .args .n) _ (c3 .loop .inv .2) (omega arith))))
+    rw (c .sqrt .ensures, sum-end _ _ (c6 .before .before .before .before .before .before .args .n) _ (c3 .loop .inv .2) (omega arith))))
