@@ -13,6 +13,7 @@ ghost use Rattle.session.specs.Values.{figured, valuesOf};
 use session::Answer;
 use session::Attempt;
 use session::History;
+use session::Numbers;
 use session::Session;
 use session::Wish;
 
@@ -39,25 +40,25 @@ pub const COUNT_AT: usize = ATTEMPT_AT + 1;
 pub const NUMBERS: usize = COUNT_AT + 1;
 
 // Among the figures.
-pub const TIME_AT: usize = 0;
+pub const TIME_AT: usize = session::figures::TIME_AT;
 
-pub const STEP_AT: usize = TIME_AT + 1;
+pub const STEP_AT: usize = session::figures::STEP_AT;
 
-pub const RELATIVE_AT: usize = STEP_AT + 1;
+pub const RELATIVE_AT: usize = session::figures::RELATIVE_AT;
 
-pub const ABSOLUTE_AT: usize = RELATIVE_AT + 1;
+pub const ABSOLUTE_AT: usize = session::figures::ABSOLUTE_AT;
 
-pub const STATE_AT: usize = ABSOLUTE_AT + 1;
+pub const STATE_AT: usize = session::figures::STATE_AT;
 
-pub const DERIVATIVE_AT: usize = STATE_AT + VECTOR;
+pub const DERIVATIVE_AT: usize = session::figures::DERIVATIVE_AT;
 
-pub const PREVIOUS_AT: usize = DERIVATIVE_AT + VECTOR;
+pub const PREVIOUS_AT: usize = session::figures::PREVIOUS_AT;
 
-pub const JACOBIAN_AT: usize = PREVIOUS_AT + VECTOR;
+pub const JACOBIAN_AT: usize = session::figures::JACOBIAN_AT;
 
-pub const ANSWERS_AT: usize = JACOBIAN_AT + MATRIX;
+pub const ANSWERS_AT: usize = session::figures::ANSWERS_AT;
 
-pub const FIGURES: usize = ANSWERS_AT + ANSWERS;
+pub const FIGURES: usize = session::figures::FIGURES;
 
 // Among the words in which a reply's outcome, refusal and counts cross.
 pub const OUTCOME_AT: usize = 0;
@@ -92,92 +93,6 @@ pub struct Reply {
     pub figure: f64,
     pub rhs: u32,
     pub jacobians: u32,
-}
-
-// ---- copies
-
-// Fills all of out from place `at` of x on.
-fn get(x: &[f64], at: usize, out: &mut [f64])
-    requires { ⌜ at + length (now out) ≤ length (now x) ⌝ }
-    ensures { λ _. ⌜ now (out .exit) ≡ part (now (x .entry)) at (length (now (out .entry))) ⌝ }
-{
-    for i in 0..out.len() {
-        out[i] = x[at + i];
-    }
-}
-
-// The n figures of x into out, from place `at` on.
-fn put(x: &[f64], n: usize, out: &mut [f64], at: usize)
-    requires { ⌜ (length (now x) ≡ n) × (at + n ≤ length (now out)) ⌝ }
-    ensures { λ _. ⌜ now (out .exit) ≡ stores (λ i _. now (x .entry) ! i) at n (now (out .entry)) ⌝ }
-{
-    for i in 0..n {
-        out[at + i] = x[i];
-    }
-}
-
-fn vector_at(x: &[f64], at: usize) -> [f64; VECTOR]
-    requires { ⌜ at + VECTOR ≤ length (now x) ⌝ }
-    ensures { λ r. ⌜ r ≡ part (now (x .entry)) at VECTOR ⌝ }
-{
-    let mut out = [0.0; VECTOR];
-    get(x, at, &mut out);
-    out
-}
-
-fn matrix_at(x: &[f64], at: usize) -> [f64; MATRIX]
-    requires { ⌜ at + MATRIX ≤ length (now x) ⌝ }
-    ensures { λ r. ⌜ r ≡ part (now (x .entry)) at MATRIX ⌝ }
-{
-    let mut out = [0.0; MATRIX];
-    get(x, at, &mut out);
-    out
-}
-
-fn all_answers(x: &[f64], at: usize) -> [f64; ANSWERS]
-    requires { ⌜ at + ANSWERS ≤ length (now x) ⌝ }
-    ensures { λ r. ⌜ r ≡ part (now (x .entry)) at ANSWERS ⌝ }
-{
-    let mut out = [0.0; ANSWERS];
-    get(x, at, &mut out);
-    out
-}
-
-// All of x, as a vector.
-pub fn vector_of(x: &[f64]) -> [f64; VECTOR]
-    requires { ⌜ length (now x) ≡ VECTOR ⌝ }
-    ensures { λ r. ⌜ r ≡ now (x .entry) ⌝ }
-{
-    vector_at(x, 0)
-}
-
-// All of x, as a matrix.
-pub fn matrix_of(x: &[f64]) -> [f64; MATRIX]
-    requires { ⌜ length (now x) ≡ MATRIX ⌝ }
-    ensures { λ r. ⌜ r ≡ now (x .entry) ⌝ }
-{
-    matrix_at(x, 0)
-}
-
-fn put_vector(x: [f64; VECTOR], out: &mut [f64], at: usize)
-    requires { ⌜ at + VECTOR ≤ length (now out) ⌝ }
-    ensures { λ _. ⌜ now (out .exit) ≡ stores (λ i _. x ! i) at VECTOR (now (out .entry)) ⌝ }
-{
-    put(&x, VECTOR, out, at);
-}
-
-fn put_matrix(x: [f64; MATRIX], out: &mut [f64], at: usize)
-    requires { ⌜ at + MATRIX ≤ length (now out) ⌝ }
-    ensures { λ _. ⌜ now (out .exit) ≡ stores (λ i _. x ! i) at MATRIX (now (out .entry)) ⌝ }
-{
-    put(&x, MATRIX, out, at);
-}
-
-fn put_answers(x: [f64; ANSWERS], out: &mut [f64], at: usize)
-    requires { ⌜ at + ANSWERS ≤ length (now out) ⌝ }
-    ensures { λ _. ⌜ now (out .exit) ≡ stores (λ i _. x ! i) at ANSWERS (now (out .entry)) ⌝ }
-{
-    put(&x, ANSWERS, out, at);
 }
 
 // ---- enums as numbers
@@ -242,86 +157,38 @@ fn attempt_number(a: Attempt) -> u64
 
 // ---- a session as numbers and figures
 
-// The session that the slices hold.
-pub fn unpack(numbers: &[u64], figures: &[f64]) -> Session
-    requires { ⌜ (length (now numbers) ≡ NUMBERS) × (length (now figures) ≡ FIGURES) ⌝ }
-    ensures { λ r. ⌜ r ≡ unpacked (now (numbers .entry)) (now (figures .entry)) ⌝ }
-{
-    let scheme = scheme_of(numbers[SCHEME_AT]);
-    let n = numbers[N_AT] as usize;
+// The numbers that the slice holds.
+pub fn numbers_in(numbers: &[u64]) -> Numbers {
     let history = history_of(numbers[HISTORY_AT]);
     let attempt = attempt_of(numbers[ATTEMPT_AT]);
-    let count = numbers[COUNT_AT] as usize;
-    let state = vector_at(figures, STATE_AT);
-    let derivative = vector_at(figures, DERIVATIVE_AT);
-    let previous = vector_at(figures, PREVIOUS_AT);
-    let jacobian = matrix_at(figures, JACOBIAN_AT);
-    let answers = all_answers(figures, ANSWERS_AT);
-    Session {
-        scheme: scheme,
-        n: n,
-        time: figures[TIME_AT],
-        state: state,
-        derivative: derivative,
-        relative: figures[RELATIVE_AT],
-        absolute: figures[ABSOLUTE_AT],
-        history: history,
-        previous: previous,
-        attempt: attempt,
-        step: figures[STEP_AT],
-        jacobian: jacobian,
-        count: count,
-        answers: answers,
+    Numbers {
+        scheme: scheme_of(numbers[SCHEME_AT]),
+        n: numbers[N_AT] as usize,
+        history,
+        attempt,
+        count: numbers[COUNT_AT] as usize,
     }
 }
 
-fn put_numbers(s: Session, numbers: &mut [u64])
-    requires { ⌜ length (now numbers) ≡ NUMBERS ⌝ }
-    ensures { λ _. ⌜ now (numbers .exit) ≡ packedNumbers s ⌝ }
-{
-    let history = s.history;
-    let attempt = s.attempt;
-    numbers[SCHEME_AT] = s.scheme as u64;
-    numbers[N_AT] = s.n as u64;
+pub fn put_numbers(k: Numbers, numbers: &mut [u64]) {
+    let history = k.history;
+    let attempt = k.attempt;
+    numbers[SCHEME_AT] = k.scheme as u64;
+    numbers[N_AT] = k.n as u64;
     numbers[HISTORY_AT] = history_number(history);
     numbers[ATTEMPT_AT] = attempt_number(attempt);
-    numbers[COUNT_AT] = s.count as u64;
+    numbers[COUNT_AT] = k.count as u64;
 }
 
-fn put_head(time: f64, step: f64, relative: f64, absolute: f64, figures: &mut [f64])
-    requires { ⌜ stateAt ≤ length (now figures) ⌝ }
-    ensures { λ _. ⌜ now (figures .exit) ≡ set (set (set (set (now (figures .entry)) timeAt «time») stepAt «step») relativeAt «relative») absoluteAt «absolute» ⌝ }
-{
-    figures[TIME_AT] = time;
-    figures[STEP_AT] = step;
-    figures[RELATIVE_AT] = relative;
-    figures[ABSOLUTE_AT] = absolute;
-}
-
-fn put_figures(s: Session, figures: &mut [f64])
-    requires { ⌜ length (now figures) ≡ FIGURES ⌝ }
-    ensures { λ _. ⌜ now (figures .exit) ≡ packedFigures s ⌝ }
-{
-    let state = s.state;
-    let derivative = s.derivative;
-    let previous = s.previous;
-    let jacobian = s.jacobian;
-    let answers = s.answers;
-    put_head(s.time, s.step, s.relative, s.absolute, &mut *figures);
-    put_vector(state, &mut *figures, STATE_AT);
-    put_vector(derivative, &mut *figures, DERIVATIVE_AT);
-    put_vector(previous, &mut *figures, PREVIOUS_AT);
-    put_matrix(jacobian, &mut *figures, JACOBIAN_AT);
-    put_answers(answers, &mut *figures, ANSWERS_AT);
+// The session that the slices hold.
+pub fn unpack(numbers: &[u64], figures: &[f64]) -> Session {
+    session::session_of(numbers_in(numbers), figures)
 }
 
 // A session into the slices.
-pub fn pack(s: Session, numbers: &mut [u64], figures: &mut [f64])
-    requires { ⌜ (length (now numbers) ≡ NUMBERS) × (length (now figures) ≡ FIGURES) ⌝ }
-    ensures { λ _. ⌜ (now (numbers .exit) ≡ packedNumbers s) × (now (figures .exit) ≡ packedFigures s) ⌝ }
-{
-    put_numbers(s, numbers);
-    put_figures(s, figures);
+pub fn pack(s: Session, numbers: &mut [u64], figures: &mut [f64]) {
+    put_numbers(session::numbers_of(s), numbers);
+    session::put_figures(s, figures);
 }
 
 // ---- what is told

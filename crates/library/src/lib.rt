@@ -17,8 +17,9 @@ ghost use Rattle.session.specs.Calls.{openCall, beginCall, supplyCall, acceptCa
 ghost use Rattle.session.specs.Bare.{exponentialCall, phiCall, normCall};
 ghost use Rattle.session.specs.Values.{isRefused};
 use session::Answer;
-use session::Session;
-use session::Told;
+use session::Attempt;
+use session::Left;
+use session::Numbers;
 
 // ---- lengths
 
@@ -66,19 +67,14 @@ fn say(answer: Answer, words: &mut [u64], told: &mut [f64]) -> bool
     r.outcome == image::REFUSED
 }
 
-// What a call told, and its session, unless it was refused.
-fn give_back(t: Told, numbers: &mut [u64], figures: &mut [f64], words: &mut [u64], told: &mut [f64])
-    requires { ⌜ Fits (slices (now numbers) (now figures) (now words) (now told)) ⌝ }
-    ensures { λ _. ⌜ Back t
-        (slices (now (numbers .entry)) (now (figures .entry)) (now (words .entry)) (now (told .entry)))
-        (slices (now (numbers .exit)) (now (figures .exit)) (now (words .exit)) (now (told .exit))) ⌝ }
-{
-    let answer = t.answer;
-    let s = t.session;
+// What a call told, and the numbers of its session, unless it was refused.
+fn give_back(left: Left, numbers: &mut [u64], words: &mut [u64], told: &mut [f64]) {
+    let answer = left.answer;
+    let k = left.numbers;
     if say(answer, words, told) {
         return;
     }
-    image::pack(s, numbers, figures);
+    image::put_numbers(k, numbers);
 }
 
 // ---- the calls
@@ -116,21 +112,27 @@ pub extern "C" fn vunchrem_open(
         (slices (now (numbers .exit)) (now (figures .exit)) (now (words .exit)) (now (told .exit))) ⌝ }
 {
     if three(state, derivative, previous) & lent(&*numbers, &*figures, &*words, &*told) {
-        let t = Session::open(
-            image::scheme_of(scheme),
-            n as usize,
+        let history = image::history_of(held);
+        let k = Numbers {
+            scheme: image::scheme_of(scheme),
+            n: n as usize,
+            history,
+            attempt: Attempt::None,
+            count: 0,
+        };
+        let left = k.open(
             time,
-            image::vector_of(state),
-            image::vector_of(derivative),
             relative,
             absolute,
-            image::history_of(held),
-            image::vector_of(previous),
+            state,
+            derivative,
+            previous,
+            figures,
         );
-        let answer = t.answer;
-        let s = t.session;
+        let answer = left.answer;
+        let after = left.numbers;
         say(answer, words, told);
-        image::pack(s, numbers, figures);
+        image::put_numbers(after, numbers);
         return 0;
     }
     1
@@ -155,9 +157,14 @@ pub extern "C" fn vunchrem_begin(
         (now (out .entry)) (now (out .exit)) ⌝ }
 {
     if sized(jacobian, image::MATRIX) & lent(&*numbers, &*figures, &*words, &*told) {
-        let s = image::unpack(&*numbers, &*figures);
-        let t = s.begin(step, image::wish_of(wish), image::matrix_of(jacobian), out);
-        give_back(t, numbers, figures, words, told);
+        let left = image::numbers_in(&*numbers).begin(
+            figures,
+            step,
+            image::wish_of(wish),
+            jacobian,
+            out,
+        );
+        give_back(left, numbers, words, told);
         return 0;
     }
     1
@@ -180,9 +187,8 @@ pub extern "C" fn vunchrem_supply(
         (now (out .entry)) (now (out .exit)) ⌝ }
 {
     if sized(answer, image::VECTOR) & lent(&*numbers, &*figures, &*words, &*told) {
-        let s = image::unpack(&*numbers, &*figures);
-        let t = s.supply(image::vector_of(answer), out);
-        give_back(t, numbers, figures, words, told);
+        let left = image::numbers_in(&*numbers).supply(figures, answer, out);
+        give_back(left, numbers, words, told);
         return 0;
     }
     1
@@ -203,9 +209,8 @@ pub extern "C" fn vunchrem_accept(
         (slices (now (numbers .exit)) (now (figures .exit)) (now (words .exit)) (now (told .exit))) ⌝ }
 {
     if sized(derivative, image::VECTOR) & lent(&*numbers, &*figures, &*words, &*told) {
-        let s = image::unpack(&*numbers, &*figures);
-        let t = s.accept(image::vector_of(derivative));
-        give_back(t, numbers, figures, words, told);
+        let left = image::numbers_in(&*numbers).accept(figures, derivative);
+        give_back(left, numbers, words, told);
         return 0;
     }
     1
@@ -224,9 +229,8 @@ pub extern "C" fn vunchrem_drop(
         (slices (now (numbers .exit)) (now (figures .exit)) (now (words .exit)) (now (told .exit))) ⌝ }
 {
     if lent(&*numbers, &*figures, &*words, &*told) {
-        let s = image::unpack(&*numbers, &*figures);
-        let t = s.drop();
-        give_back(t, numbers, figures, words, told);
+        let left = image::numbers_in(&*numbers).drop(figures);
+        give_back(left, numbers, words, told);
         return 0;
     }
     1
@@ -246,9 +250,7 @@ pub extern "C" fn vunchrem_first_step(
         (room (now (words .exit)) (now (told .exit))) ⌝ }
 {
     if lent(numbers, figures, &*words, &*told) {
-        let s = image::unpack(numbers, figures);
-        let t = s.first_step(largest);
-        let answer = t.answer;
+        let answer = image::numbers_in(numbers).first_step(figures, largest);
         say(answer, words, told);
         return 0;
     }
@@ -319,14 +321,7 @@ pub extern "C" fn vunchrem_error_norm(
         (room (now (words .entry)) (now (told .entry))) (room (now (words .exit)) (now (told .exit))) ⌝ }
 {
     if three(error, state, candidate) & hearing(&*words, &*told) {
-        let answer = session::error_norm(
-            n as usize,
-            relative,
-            absolute,
-            image::vector_of(error),
-            image::vector_of(state),
-            image::vector_of(candidate),
-        );
+        let answer = session::error_norm(n as usize, relative, absolute, error, state, candidate);
         say(answer, words, told);
         return 0;
     }

@@ -3,7 +3,9 @@ use Rattle.loops.proofs.Bools.{both-true}
 use Rattle.methods.specs.Step.{questions, Progress, refused, progress as reached, progressKind}
 use Rattle.session.specs.Tests.{Tests, fault, condition, numbered, unless}
 use Rattle.session.specs.Session.{schemes, largest, Run, joined, trialOf, fresh, wanted, wantedBy, phaseWith, phaseAt, phaseOf, phaseNumber, admits, sizeOk, runPlaces, attemptPlaces}
-use Rattle.session.specs.Session.{good1, historyOk, good2, good7, sessionTests, usedJacobian, Sound, clear}
+use Rattle.float.specs.Arith.{finite}
+use Rattle.evaluation.specs.Evaluation.{allFinite}
+use Rattle.session.specs.Session.{good1, historyOk, good2, good3, good7, sessionTests, usedJacobian, Sound, clear}
 use Rattle.methods.proofs.Shape.{questions-small}
 use Rattle.evaluation.specs.Sizes.{answersKept}
 use Rattle.methods.specs.Vectors.{Sized}
@@ -61,6 +63,15 @@ good2-parts s e =
     let b = both-true (ltb (s .scheme) schemes) (historyOk (s .history) (s .scheme)) (a .0) in
     (ltb-true (s .scheme) schemes (b .0), leb-true (s .count) (wantedBy s) (a .1))
 
+good3-state : (s : Session) → good3 s ≡ true → allFinite (s .state) ≡ true
+unfolding good3
+good3-state s e =
+    let a = both-true (finite (s .time) && allFinite (s .state) && allFinite (s .derivative) && allFinite (s .previous) && allFinite (s .jacobian)) (allFinite (s .answers)) e in
+    let b = both-true (finite (s .time) && allFinite (s .state) && allFinite (s .derivative) && allFinite (s .previous)) (allFinite (s .jacobian)) (a .0) in
+    let c = both-true (finite (s .time) && allFinite (s .state) && allFinite (s .derivative)) (allFinite (s .previous)) (b .0) in
+    let d = both-true (finite (s .time) && allFinite (s .state)) (allFinite (s .derivative)) (c .0) in
+    both-true (finite (s .time)) (allFinite (s .state)) (d .0) .1
+
 -- ---- sessions that are not refused
 
 pub session-numbered : (wants : Wants) (s : Session) → numbered (sessionTests wants s) ≡ true
@@ -75,7 +86,7 @@ pub fault-none : (wants : Wants) (s : Session) → fault (sessionTests wants s) 
 fault-none wants s e =
     let n = good1-size s (unfold condition sessionTests in session-row wants s e 1) in
     let m = good2-parts s (unfold condition sessionTests in session-row wants s e 2) in
-    record { some = n .0; small = n .1; scheme = m .0; enough = m .1 }
+    record { some = n .0; small = n .1; scheme = m .0; enough = m .1; calm = good3-state s (unfold condition sessionTests in session-row wants s e 3) }
 
 pub in-phase : (phase : Phase) (s : Session) → fault (sessionTests (Only phase) s) ≡ 0 → phaseNumber phase ≡ phaseNumber (phaseOf s)
 in-phase phase s e =
@@ -161,11 +172,11 @@ module _ (r : Run) (none : Session) (e : none ≡ nothing) where
 
 pub begun-sound : (s : Session) (h : Float) (w : Wish) (j : List Float) → Sound s → Sound (begun s h (attemptOf w) j)
 unfolding begun fresh
-begun-sound s h w j r = record { some = r .some; small = r .small; scheme = r .scheme; enough = omega arith }
+begun-sound s h w j r = record { some = r .some; small = r .small; scheme = r .scheme; enough = omega arith; calm = r .calm }
 
 pub answered-sound : (s : Session) (x : List Float) → Sound s → s .count < wantedBy s → Sound (answered s x)
 unfolding answered
-answered-sound s x r h = record { some = r .some; small = r .small; scheme = r .scheme; enough = omega arith }
+answered-sound s x r h = record { some = r .some; small = r .small; scheme = r .scheme; enough = omega arith; calm = r .calm }
 
 -- ---- what is shown of a pass, from what the code knows of it
 show-kind : (old s : Session) (o : List Float) (k : Kind) (x e g : List Float)

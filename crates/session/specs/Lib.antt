@@ -1,7 +1,9 @@
 pub mod Tests
 pub mod Values
 pub mod Session
+pub mod Figures
 pub mod Calls
+pub mod Lent
 pub mod Bare
 pub mod Runs
 pub mod Refusals

@@ -1,5 +1,6 @@
 -- A session, what a call refuses it for, and how far its attempt has come. Definitions only.
 use Prim.Native.Nat.{ℕ, _+_, _-_, _*_, _/_, _%_, _≤_, _<_}
+use mathlib.Core.Path.{_≡_}
 use mathlib.Core.Bool.{Bool, true, false, cond, not, _&&_, _||_}
 use mathlib.Core.List.{List, [], _∷_}
 use lib.Dec.{ltb, leb, eqb}
@@ -238,6 +239,7 @@ pub record Sound (s : Session) : Type 0 where
   pub small : s .n ≤ places
   pub scheme : s .scheme < schemes
   pub enough : s .count ≤ wantedBy s
+  pub calm : allFinite (s .state) ≡ true
 
 -- ---- the attempt, as far as its answers go
 

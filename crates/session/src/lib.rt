@@ -1,32 +1,51 @@
 // general.rs and document 01's session: the record, what a call refuses it for, the attempt as far as its answers go, the calls, and the
 // bare calls.
 ghost use mathlib.Core.Path.{_≡_};
+ghost use mathlib.Core.Bool.{true, cond, _&&_};
+ghost use mathlib.Core.List.{List};
 ghost use Prim.Native.Nat.{ℕ, _+_, _-_, _*_, _≤_, _<_};
+ghost use lib.Dec.{eqb};
+ghost use lib.Ieee.{Float};
 ghost use lib.ListN.{length, take};
-ghost use Rattle.loops.specs.Loop.{mat};
+ghost use Rattle.loops.specs.Loop.{every, stores, _!_};
+ghost use Rattle.evaluation.specs.Evaluation.{allFinite};
 ghost use Rattle.evaluation.specs.Sizes.{places, answersKept, answerRoom};
 ghost use Rattle.methods.specs.Step.{refused, performStep};
 ghost use Rattle.methods.specs.Step.{progress as reached};
-ghost use Rattle.engine.specs.Engine.{jacobianEntry};
+ghost use Rattle.float.specs.Arith.{zero+};
 ghost use Rattle.session.specs.Tests.{fault};
-ghost use Rattle.session.specs.Session.{usedHistory, usedJacobian, stepClear, wanted, wantedBy, phaseWith, phaseOf, phaseNumber, admits, runPlaces, attemptPlaces};
-ghost use Rattle.session.specs.Session.{good1, historyOk, good2, good7, positive, stepOk, good4, good5, good3, sessionTests, Sound};
+ghost use Rattle.session.specs.Session.{jacobianRoom, clear, usedHistory, usedJacobian, stepClear, wanted, wantedBy, phaseWith, phaseOf, phaseNumber, admits};
+ghost use Rattle.session.specs.Session.{good1, historyOk, good2, good7, positive, stepOk, good4, good5, good3, sessionTests, Sound, attemptPlaces};
 ghost use Rattle.session.specs.Session.{isHeld, pointOf, stepped, question, differencing, progress};
+ghost use Rattle.session.specs.Figures.{FIGURES, stateAt, derivativeAt, previousAt, jacobianAt, answersAt, part, sessionOf, numbersOf, figuresOf};
 ghost use Rattle.session.specs.Calls.{outcome, tell, refuse, opened, nothing, begun, rested, answered, moved, readyOf, answerOf, shown, arrived, settled};
 ghost use Rattle.session.specs.Calls.{vectorTests, attemptOf, attemptTests, largestTests, beginTests, supplyTests, acceptTests, firstStepTests};
 ghost use Rattle.session.specs.Calls.{openCall, beginCall, supplyCall, acceptCall, dropCall, firstStepCall};
+ghost use Rattle.session.specs.Lent.{arraysFinite, columnOf, columnAsked, steppedFrom, suppliedFrom, toldBy, refusedBy, restingAt, remains, fills};
+ghost use Rattle.session.specs.Lent.{lentCall, lentOpen, lentAsk, lentFill};
 ghost use Rattle.session.specs.Bare.{bare, exponentialTests, exponentialCall, phiTests, phiCall, normTests, normCall};
 
+pub mod figures;
 mod places;
 
 use evaluation::PLACES;
 use evaluation::ROOM;
+use figures::ABSOLUTE_AT;
+use figures::ANSWERS_AT;
+use figures::DERIVATIVE_AT;
+use figures::FIGURES;
+use figures::JACOBIAN_AT;
+use figures::PREVIOUS_AT;
+use figures::RELATIVE_AT;
+use figures::STATE_AT;
+use figures::STEP_AT;
+use figures::TIME_AT;
 use methods::ETD2;
 use methods::EXPRB32;
 use methods::EXPRB43;
 
 // The room of a Jacobian, row by row.
-pub const JACOBIAN: usize = PLACES * PLACES;
+pub const JACOBIAN: usize = figures::JACOBIAN;
 // How many schemes there are.
 pub const SCHEMES: u8 = 16;
 // The size of the largest matrix that is exponentiated.
@@ -79,6 +98,21 @@ pub struct Session {
     pub jacobian: [f64; JACOBIAN],
     pub count: usize,
     pub answers: [f64; ROOM],
+}
+
+// What of a session is no double. Its figures are lent beside it.
+pub struct Numbers {
+    pub scheme: u8,
+    pub n: usize,
+    pub history: History,
+    pub attempt: Attempt,
+    pub count: usize,
+}
+
+// An answer, and the numbers of the session whose figures the call left.
+pub struct Left {
+    pub answer: Answer,
+    pub numbers: Numbers,
 }
 
 // An answer, and the session that comes back.
@@ -144,38 +178,56 @@ fn step_clear(a: Attempt, step: f64) -> bool
     }
 }
 
-fn run_places(s: Session) -> bool
-    ensures { λ r. ⌜ r ≡ runPlaces s ⌝ }
+// 1, of the run; `calm` says that every place is finite.
+fn run_places(
+    n: usize,
+    history: History,
+    state: &[f64],
+    derivative: &[f64],
+    previous: &[f64],
+    calm: bool,
+) -> bool
+    requires { ⌜ («calm» ≡ true → allFinite (now state) ≡ true) × («calm» ≡ true → allFinite (now derivative) ≡ true) × («calm» ≡ true → allFinite (now previous) ≡ true) ⌝ }
+    ensures { λ r. ⌜ r ≡ (clear n (now (state .entry)) && clear n (now (derivative .entry)) && clear (usedHistory history n) (now (previous .entry))) ⌝ }
 {
-    let n = s.n;
-    let history = s.history;
-    let state = s.state;
-    let derivative = s.derivative;
-    let previous = s.previous;
-    places::clear(&state, n)
-        & places::clear(&derivative, n)
-        & places::clear(&previous, used_history(history, n))
+    places::clear(state, n, calm)
+        & places::clear(derivative, n, calm)
+        & places::clear(previous, used_history(history, n), calm)
 }
 
-fn attempt_places(s: Session) -> bool
-    requires { ⌜ s .n ≤ places ⌝ }
-    ensures { λ r. ⌜ r ≡ attemptPlaces s ⌝ }
+// 1, of the attempt.
+fn attempt_places(k: Numbers, figures: &[f64], calm: bool) -> bool
+    requires { ⌜ (length (now figures) ≡ FIGURES) × (k .n ≤ places) ⌝ }
+    requires { ⌜ («calm» ≡ true → arraysFinite (sessionOf k (now figures)) ≡ true) ⌝ }
+    ensures { λ r. ⌜ r ≡ attemptPlaces (sessionOf k (now (figures .entry))) ⌝ }
 {
-    let n = s.n;
-    let attempt = s.attempt;
-    let jacobian = s.jacobian;
-    let answers = s.answers;
-    step_clear(attempt, s.step)
-        & places::clear(&jacobian, used_jacobian(attempt, n))
-        & places::clear_answers(&answers, s.count, n)
+    let n = k.n;
+    let attempt = k.attempt;
+    step_clear(attempt, figures[STEP_AT])
+        & places::clear(
+            &figures[JACOBIAN_AT..ANSWERS_AT],
+            used_jacobian(attempt, n),
+            calm,
+        )
+        & places::clear_answers(&figures[ANSWERS_AT..FIGURES], k.count, n, calm)
 }
 
-fn good1(s: Session) -> bool
-    ensures { λ r. ⌜ r ≡ good1 s ⌝ }
+fn good1(k: Numbers, figures: &[f64], calm: bool) -> bool
+    requires { ⌜ length (now figures) ≡ FIGURES ⌝ }
+    requires { ⌜ («calm» ≡ true → arraysFinite (sessionOf k (now figures)) ≡ true) ⌝ }
+    ensures { λ r. ⌜ r ≡ good1 (sessionOf k (now (figures .entry))) ⌝ }
 {
-    let n = s.n;
+    let n = k.n;
+    let history = k.history;
     if (1 <= n) & (n <= PLACES) {
-        return run_places(s) & attempt_places(s);
+        return run_places(
+            n,
+            history,
+            &figures[STATE_AT..DERIVATIVE_AT],
+            &figures[DERIVATIVE_AT..PREVIOUS_AT],
+            &figures[PREVIOUS_AT..JACOBIAN_AT],
+            calm,
+        ) & attempt_places(k, figures, calm);
     }
     false
 }
@@ -189,15 +241,15 @@ fn history_ok(h: History, scheme: u8) -> bool
     }
 }
 
-fn good2(s: Session) -> bool
-    requires { ⌜ s .n ≤ places ⌝ }
-    ensures { λ r. ⌜ r ≡ good2 s ⌝ }
+fn good2(k: Numbers) -> bool
+    requires { ⌜ k .n ≤ places ⌝ }
+    ensures { λ r. ⌜ ((figures : List Float) → r ≡ good2 (sessionOf k figures)) ⌝ }
 {
-    let history = s.history;
-    let attempt = s.attempt;
-    (s.scheme < SCHEMES)
-        & history_ok(history, s.scheme)
-        & (s.count <= wanted(s.scheme, s.n, attempt))
+    let history = k.history;
+    let attempt = k.attempt;
+    (k.scheme < SCHEMES)
+        & history_ok(history, k.scheme)
+        & (k.count <= wanted(k.scheme, k.n, attempt))
 }
 
 fn phase_number(p: Phase) -> u8
@@ -216,12 +268,12 @@ fn phase_with(more: bool) -> Phase
     if more { Phase::Asking } else { Phase::Waiting }
 }
 
-fn phase_of(s: Session) -> Phase
-    requires { ⌜ s .n ≤ places ⌝ }
-    ensures { λ r. ⌜ r ≡ phaseOf s ⌝ }
+fn phase_of(k: Numbers) -> Phase
+    requires { ⌜ k .n ≤ places ⌝ }
+    ensures { λ r. ⌜ ((figures : List Float) → r ≡ phaseOf (sessionOf k figures)) ⌝ }
 {
-    let attempt = s.attempt;
-    let more = s.count < wanted(s.scheme, s.n, attempt);
+    let attempt = k.attempt;
+    let more = k.count < wanted(k.scheme, k.n, attempt);
     match attempt {
         Attempt::None => Phase::Rest,
         Attempt::Supplied => phase_with(more),
@@ -238,11 +290,11 @@ fn admits(wants: Wants, phase: Phase) -> bool
     }
 }
 
-fn good7(wants: Wants, s: Session) -> bool
-    requires { ⌜ s .n ≤ places ⌝ }
-    ensures { λ r. ⌜ r ≡ good7 wants s ⌝ }
+fn good7(wants: Wants, k: Numbers) -> bool
+    requires { ⌜ k .n ≤ places ⌝ }
+    ensures { λ r. ⌜ ((figures : List Float) → r ≡ good7 wants (sessionOf k figures)) ⌝ }
 {
-    admits(wants, phase_of(s))
+    admits(wants, phase_of(k))
 }
 
 fn positive(x: f64) -> bool
@@ -257,10 +309,10 @@ fn step_ok(h: f64) -> bool
     float::finite(h) & !(h == 0.0)
 }
 
-fn good4(s: Session) -> bool
-    ensures { λ r. ⌜ r ≡ good4 s ⌝ }
+fn good4(relative: f64, absolute: f64) -> bool
+    ensures { λ r. ⌜ r ≡ (positive «relative» && positive «absolute») ⌝ }
 {
-    positive(s.relative) & positive(s.absolute)
+    positive(relative) & positive(absolute)
 }
 
 fn good5(a: Attempt, step: f64) -> bool
@@ -273,37 +325,31 @@ fn good5(a: Attempt, step: f64) -> bool
     }
 }
 
-fn good3(s: Session) -> bool
-    ensures { λ r. ⌜ r ≡ good3 s ⌝ }
+// Whether every figure of the arrays is finite.
+fn arrays_finite(figures: &[f64]) -> bool
+    requires { ⌜ length (now figures) ≡ FIGURES ⌝ }
+    ensures { λ r. ⌜ ((k : Numbers) → r ≡ arraysFinite (sessionOf k (now (figures .entry)))) ⌝ }
 {
-    let state = s.state;
-    let derivative = s.derivative;
-    let previous = s.previous;
-    let jacobian = s.jacobian;
-    let answers = s.answers;
-    float::finite(s.time)
-        & evaluation::all_finite(&state)
-        & evaluation::all_finite(&derivative)
-        & evaluation::all_finite(&previous)
-        & evaluation::all_finite(&jacobian)
-        & evaluation::all_finite(&answers)
+    evaluation::all_finite(&figures[STATE_AT..FIGURES])
 }
 
 // The number by which a session is refused, 0 if by none.
-fn session_fault(wants: Wants, s: Session) -> u8
-    ensures { λ r. ⌜ r ≡ fault (sessionTests wants s) ⌝ }
+fn session_fault(wants: Wants, k: Numbers, figures: &[f64]) -> u8
+    requires { ⌜ length (now figures) ≡ FIGURES ⌝ }
+    ensures { λ r. ⌜ r ≡ fault (sessionTests wants (sessionOf k (now (figures .entry)))) ⌝ }
 {
-    if !good1(s) {
+    let calm = arrays_finite(figures);
+    if !good1(k, figures, calm) {
         return 1;
     }
-    if !good2(s) {
+    if !good2(k) {
         return 2;
     }
-    let attempt = s.attempt;
-    let in_phase = good7(wants, s);
-    let tolerances = good4(s);
-    let step = good5(attempt, s.step);
-    let numbers = good3(s);
+    let attempt = k.attempt;
+    let in_phase = good7(wants, k);
+    let tolerances = good4(figures[RELATIVE_AT], figures[ABSOLUTE_AT]);
+    let step = good5(attempt, figures[STEP_AT]);
+    let numbers = float::finite(figures[TIME_AT]) & calm;
     if !in_phase {
         return 7;
     }
@@ -319,15 +365,62 @@ fn session_fault(wants: Wants, s: Session) -> u8
     0
 }
 
-// ---- what is refused of what is handed in
-
-fn vector_fault(n: usize, x: [f64; PLACES], lent: bool) -> u8
-    ensures { λ r. ⌜ r ≡ fault (vectorTests n x lent) ⌝ }
+// The same of a run that is to be opened: its attempt holds nothing.
+fn run_fault(
+    k: Numbers,
+    time: f64,
+    relative: f64,
+    absolute: f64,
+    state: &[f64],
+    derivative: &[f64],
+    previous: &[f64],
+) -> u8
+    requires { ⌜ (k .attempt ≡ Attempt.None) × (k .count ≡ 0) ⌝ }
+    ensures { λ r. ⌜ r ≡ fault (sessionTests Wants.Any (opened (record {
+      scheme = k .scheme;
+      n = k .n;
+      time = «time»;
+      state = now (state .entry);
+      derivative = now (derivative .entry);
+      relative = «relative»;
+      absolute = «absolute»;
+      history = k .history;
+      previous = now (previous .entry);
+    }))) ⌝ }
 {
-    if !(places::clear(&x, n) & lent) {
+    let n = k.n;
+    let history = k.history;
+    let calm = evaluation::all_finite(state)
+        & evaluation::all_finite(derivative)
+        & evaluation::all_finite(previous);
+    if !((1 <= n) & (n <= PLACES)) {
         return 1;
     }
-    if !evaluation::all_finite(&x) {
+    if !run_places(n, history, state, derivative, previous, calm) {
+        return 1;
+    }
+    if !good2(k) {
+        return 2;
+    }
+    if !good4(relative, absolute) {
+        return 4;
+    }
+    if !(float::finite(time) & calm) {
+        return 3;
+    }
+    0
+}
+
+// ---- what is refused of what is handed in
+
+fn vector_fault(n: usize, x: &[f64], lent: bool) -> u8
+    ensures { λ r. ⌜ r ≡ fault (vectorTests n (now (x .entry)) «lent») ⌝ }
+{
+    let calm = evaluation::all_finite(x);
+    if !(places::clear(x, n, calm) & lent) {
+        return 1;
+    }
+    if !calm {
         return 3;
     }
     0
@@ -342,17 +435,18 @@ fn attempt_of(w: Wish) -> Attempt
     }
 }
 
-fn attempt_fault(n: usize, step: f64, a: Attempt, jacobian: [f64; JACOBIAN], lent: usize) -> u8
+fn attempt_fault(n: usize, step: f64, a: Attempt, jacobian: &[f64], lent: usize) -> u8
     requires { ⌜ n ≤ places ⌝ }
-    ensures { λ r. ⌜ r ≡ fault (attemptTests n step a jacobian lent) ⌝ }
+    ensures { λ r. ⌜ r ≡ fault (attemptTests n «step» a (now (jacobian .entry)) lent) ⌝ }
 {
-    if !(places::clear(&jacobian, used_jacobian(a, n)) & (lent == n)) {
+    let calm = evaluation::all_finite(jacobian);
+    if !(places::clear(jacobian, used_jacobian(a, n), calm) & (lent == n)) {
         return 1;
     }
     if !step_ok(step) {
         return 5;
     }
-    if !evaluation::all_finite(&jacobian) {
+    if !calm {
         return 3;
     }
     0
@@ -369,44 +463,55 @@ fn largest_fault(largest: f64) -> u8
 
 // ---- what a call is refused for: the session, then what is handed in
 
-fn begin_fault(s: Session, step: f64, a: Attempt, jacobian: [f64; JACOBIAN], lent: usize) -> u8
-    ensures { λ r. ⌜ r ≡ fault (beginTests s step a jacobian lent) ⌝ }
+fn begin_fault(
+    k: Numbers,
+    figures: &[f64],
+    step: f64,
+    a: Attempt,
+    jacobian: &[f64],
+    lent: usize,
+) -> u8
+    requires { ⌜ length (now figures) ≡ FIGURES ⌝ }
+    ensures { λ r. ⌜ r ≡ fault (beginTests (sessionOf k (now (figures .entry))) «step» a (now (jacobian .entry)) lent) ⌝ }
 {
-    let k = session_fault(Wants::Only(Phase::Rest), s);
-    if k == 0 {
-        return attempt_fault(s.n, step, a, jacobian, lent);
+    let fault = session_fault(Wants::Only(Phase::Rest), k, figures);
+    if fault == 0 {
+        return attempt_fault(k.n, step, a, jacobian, lent);
     }
-    k
+    fault
 }
 
-fn supply_fault(s: Session, answer: [f64; PLACES], lent: usize) -> u8
-    ensures { λ r. ⌜ r ≡ fault (supplyTests s answer lent) ⌝ }
+fn supply_fault(k: Numbers, figures: &[f64], answer: &[f64], lent: usize) -> u8
+    requires { ⌜ length (now figures) ≡ FIGURES ⌝ }
+    ensures { λ r. ⌜ r ≡ fault (supplyTests (sessionOf k (now (figures .entry))) (now (answer .entry)) lent) ⌝ }
 {
-    let k = session_fault(Wants::Only(Phase::Asking), s);
-    if k == 0 {
-        return vector_fault(s.n, answer, lent == s.n);
+    let fault = session_fault(Wants::Only(Phase::Asking), k, figures);
+    if fault == 0 {
+        return vector_fault(k.n, answer, lent == k.n);
     }
-    k
+    fault
 }
 
-fn accept_fault(s: Session, derivative: [f64; PLACES]) -> u8
-    ensures { λ r. ⌜ r ≡ fault (acceptTests s derivative) ⌝ }
+fn accept_fault(k: Numbers, figures: &[f64], derivative: &[f64]) -> u8
+    requires { ⌜ length (now figures) ≡ FIGURES ⌝ }
+    ensures { λ r. ⌜ r ≡ fault (acceptTests (sessionOf k (now (figures .entry))) (now (derivative .entry))) ⌝ }
 {
-    let k = session_fault(Wants::Only(Phase::Waiting), s);
-    if k == 0 {
-        return vector_fault(s.n, derivative, true);
+    let fault = session_fault(Wants::Only(Phase::Waiting), k, figures);
+    if fault == 0 {
+        return vector_fault(k.n, derivative, true);
     }
-    k
+    fault
 }
 
-fn first_step_fault(s: Session, largest: f64) -> u8
-    ensures { λ r. ⌜ r ≡ fault (firstStepTests s largest) ⌝ }
+fn first_step_fault(k: Numbers, figures: &[f64], largest: f64) -> u8
+    requires { ⌜ length (now figures) ≡ FIGURES ⌝ }
+    ensures { λ r. ⌜ r ≡ fault (firstStepTests (sessionOf k (now (figures .entry))) «largest») ⌝ }
 {
-    let k = session_fault(Wants::Any, s);
-    if k == 0 {
+    let fault = session_fault(Wants::Any, k, figures);
+    if fault == 0 {
         return largest_fault(largest);
     }
-    k
+    fault
 }
 
 // ---- the attempt, as far as its answers go
@@ -420,22 +525,23 @@ fn is_held(h: History) -> bool
     }
 }
 
-fn point_of(s: Session) -> methods::Point
-    ensures { λ r. ⌜ r ≡ pointOf s ⌝ }
+fn point_of(k: Numbers, figures: &[f64]) -> methods::Point
+    requires { ⌜ length (now figures) ≡ FIGURES ⌝ }
+    ensures { λ r. ⌜ r ≡ pointOf (sessionOf k (now (figures .entry))) ⌝ }
 {
-    let history = s.history;
-    let state = s.state;
-    let f0 = s.derivative;
-    let previous = s.previous;
+    let history = k.history;
+    let state = figures::vector_at(figures, STATE_AT);
+    let f0 = figures::vector_at(figures, DERIVATIVE_AT);
+    let previous = figures::vector_at(figures, PREVIOUS_AT);
     let held = is_held(history);
     methods::Point {
-        n: s.n,
-        time: s.time,
-        step: s.step,
-        state: state,
-        f0: f0,
-        held: held,
-        previous: previous,
+        n: k.n,
+        time: figures[TIME_AT],
+        step: figures[STEP_AT],
+        state,
+        f0,
+        previous,
+        held,
     }
 }
 
@@ -466,265 +572,685 @@ fn asked(x: [f64; PLACES], time: f64) -> methods::StepResult
 }
 
 // All columns are answered: the step with the Jacobian that they give.
-fn stepped_from(s: Session, answers: &[f64], a: &mut [f64]) -> methods::StepResult
-    requires { ⌜ Sound s ⌝ }
-    requires { ⌜ (s .n ≤ s .count) × (s .count ≤ s .n + 4) ⌝ }
-    requires { ⌜ (now answers ≡ s .answers) × (length (now answers) ≡ answerRoom) ⌝ }
-    requires { ⌜ length (now a) ≡ s .n * s .n ⌝ }
-    ensures { λ r. ⌜ reached r ≡ stepped s (mat (s .n) (jacobianEntry (s .state) (s .derivative) (s .answers))) (s .n) ⌝ }
+fn stepped_from(k: Numbers, figures: &[f64], a: &mut [f64]) -> methods::StepResult
+    requires { ⌜ (length (now figures) ≡ FIGURES) × Sound (sessionOf k (now figures)) ⌝ }
+    requires { ⌜ (k .n ≤ k .count) × (k .count ≤ k .n + 4) ⌝ }
+    requires { ⌜ length (now a) ≡ k .n * k .n ⌝ }
+    ensures { λ r. ⌜ reached r ≡ steppedFrom (sessionOf k (now (figures .entry))) ⌝ }
 {
-    let n = s.n;
-    let state = s.state;
-    let f0 = s.derivative;
-    engine::jacobian_into(state, f0, answers, n, &mut *a);
-    schemes::perform_step(s.scheme, point_of(s), &*a, answers, n, s.count - n)
+    let n = k.n;
+    let answers = &figures[ANSWERS_AT..FIGURES];
+    engine::jacobian_into(
+        &figures[STATE_AT..DERIVATIVE_AT],
+        &figures[DERIVATIVE_AT..PREVIOUS_AT],
+        answers,
+        n,
+        &mut *a,
+    );
+    schemes::perform_step(
+        k.scheme,
+        point_of(k, figures),
+        &*a,
+        answers,
+        n,
+        k.count - n,
+    )
 }
 
-fn differencing(s: Session, answers: &[f64]) -> methods::StepResult
-    requires { ⌜ Sound s ⌝ }
-    requires { ⌜ s .count ≤ s .n + 4 ⌝ }
-    requires { ⌜ (now answers ≡ s .answers) × (length (now answers) ≡ answerRoom) ⌝ }
-    ensures { λ r. ⌜ reached r ≡ differencing s ⌝ }
+// Whether the first m columns were asked at finite states and are finite.
+fn columns_ok(k: Numbers, figures: &[f64], m: usize) -> bool
+    requires { ⌜ (length (now figures) ≡ FIGURES) × Sound (sessionOf k (now figures)) ⌝ }
+    requires { ⌜ m ≤ k .n ⌝ }
+    ensures { λ r. ⌜ r ≡ every m (columnOf (sessionOf k (now (figures .entry)))) ⌝ }
 {
-    let n = s.n;
-    let count = s.count;
-    let state = s.state;
-    let f0 = s.derivative;
+    engine::columns_ok(
+        &figures[STATE_AT..DERIVATIVE_AT],
+        &figures[DERIVATIVE_AT..PREVIOUS_AT],
+        &figures[ANSWERS_AT..FIGURES],
+        k.n,
+        m,
+    )
+}
+
+// The next column's question.
+fn column(k: Numbers, figures: &[f64]) -> methods::StepResult
+    requires { ⌜ (length (now figures) ≡ FIGURES) × Sound (sessionOf k (now figures)) ⌝ }
+    ensures { λ r. ⌜ reached r ≡ columnAsked (sessionOf k (now (figures .entry))) ⌝ }
+{
+    let x = engine::perturbed(&figures[STATE_AT..DERIVATIVE_AT], k.count, k.n);
+    asked(x, figures[TIME_AT])
+}
+
+fn differencing(k: Numbers, figures: &[f64]) -> methods::StepResult
+    requires { ⌜ (length (now figures) ≡ FIGURES) × Sound (sessionOf k (now figures)) ⌝ }
+    requires { ⌜ k .count ≤ k .n + 4 ⌝ }
+    ensures { λ r. ⌜ reached r ≡ differencing (sessionOf k (now (figures .entry))) ⌝ }
+{
+    let n = k.n;
+    let count = k.count;
     if count < n {
-        if engine::columns_ok(state, f0, answers, n, count) {
-            return asked(engine::perturbed(state, count, n), s.time);
+        if columns_ok(k, figures, count) {
+            return column(k, figures);
         }
         return not_allowed();
     }
-    if engine::columns_ok(state, f0, answers, n, n) {
+    if columns_ok(k, figures, n) {
         let size = n * n;
         let mut a = [0.0; JACOBIAN];
-        return stepped_from(s, answers, &mut a[..size]);
+        return stepped_from(k, figures, &mut a[..size]);
     }
     not_allowed()
 }
 
-fn differenced(s: Session) -> methods::StepResult
-    requires { ⌜ Sound s ⌝ }
-    requires { ⌜ s .count ≤ s .n + 4 ⌝ }
-    ensures { λ r. ⌜ reached r ≡ differencing s ⌝ }
+fn supplied(k: Numbers, figures: &[f64]) -> methods::StepResult
+    requires { ⌜ (length (now figures) ≡ FIGURES) × Sound (sessionOf k (now figures)) ⌝ }
+    requires { ⌜ k .count ≤ 4 ⌝ }
+    ensures { λ r. ⌜ reached r ≡ suppliedFrom (sessionOf k (now (figures .entry))) ⌝ }
 {
-    let answers = s.answers;
-    differencing(s, &answers)
-}
-
-fn supplied(s: Session) -> methods::StepResult
-    requires { ⌜ Sound s ⌝ }
-    requires { ⌜ s .count ≤ 4 ⌝ }
-    ensures { λ r. ⌜ reached r ≡ stepped s (take (s .n * s .n) (s .jacobian)) 0 ⌝ }
-{
-    let n = s.n;
-    let size = n * n;
-    let jacobian = s.jacobian;
-    let answers = s.answers;
+    let end = JACOBIAN_AT + k.n * k.n;
     schemes::perform_step(
-        s.scheme,
-        point_of(s),
-        &jacobian[..size],
-        &answers,
+        k.scheme,
+        point_of(k, figures),
+        &figures[JACOBIAN_AT..end],
+        &figures[ANSWERS_AT..FIGURES],
         0,
-        s.count,
+        k.count,
     )
 }
 
-fn run_pass(s: Session) -> methods::StepResult
-    requires { ⌜ Sound s ⌝ }
-    ensures { λ r. ⌜ reached r ≡ progress s ⌝ }
+// Where the attempt stands.
+fn run_pass(k: Numbers, figures: &[f64]) -> methods::StepResult
+    requires { ⌜ (length (now figures) ≡ FIGURES) × Sound (sessionOf k (now figures)) ⌝ }
+    ensures { λ r. ⌜ reached r ≡ progress (sessionOf k (now (figures .entry))) ⌝ }
 {
-    let attempt = s.attempt;
+    let attempt = k.attempt;
     match attempt {
         Attempt::None => not_allowed(),
-        Attempt::Supplied => supplied(s),
-        Attempt::Differenced => differenced(s),
+        Attempt::Supplied => supplied(k, figures),
+        Attempt::Differenced => differencing(k, figures),
     }
 }
 
-// ---- the session that comes back
+// ---- what is told
 
-// The run of s with another attempt, which has no answer yet.
-fn begun(s: Session, step: f64, attempt: Attempt, jacobian: [f64; JACOBIAN]) -> Session
-    ensures { λ r. ⌜ r ≡ begun s step attempt jacobian ⌝ }
+fn ready_of(k: Numbers, figures: &[f64], candidate: &[f64], error: &[f64]) -> Answer
+    requires { ⌜ (length (now figures) ≡ FIGURES) × Sound (sessionOf k (now figures)) ⌝ }
+    requires { ⌜ (length (now candidate) ≡ places) × (length (now error) ≡ places) ⌝ }
+    ensures { λ r. ⌜ r ≡ readyOf (sessionOf k (now (figures .entry))) (now (candidate .entry)) (now (error .entry)) ⌝ }
 {
-    Session {
-        attempt,
-        step,
-        jacobian,
-        count: 0,
-        answers: [0.0; ROOM],
-        ..s
+    let n = k.n;
+    let attempt = k.attempt;
+    let rhs = wanted(k.scheme, n, attempt);
+    if (k.scheme == EXPRB32) | (k.scheme == EXPRB43) {
+        let norm = engine::scaled_error_norm(
+            n,
+            figures[RELATIVE_AT],
+            figures[ABSOLUTE_AT],
+            &figures[STATE_AT..DERIVATIVE_AT],
+            candidate,
+            error,
+        );
+        return Answer::Ready(norm, rhs as u32, 1);
+    }
+    Answer::Ready(0.0, rhs as u32, 1)
+}
+
+fn answer_of(
+    k: Numbers,
+    figures: &[f64],
+    kind: methods::Kind,
+    x: [f64; PLACES],
+    e: [f64; PLACES],
+) -> Answer
+    requires { ⌜ (length (now figures) ≡ FIGURES) × Sound (sessionOf k (now figures)) ⌝ }
+    ensures { λ r. ⌜ r ≡ answerOf (sessionOf k (now (figures .entry))) kind x e ⌝ }
+{
+    match kind {
+        methods::Kind::Question(t) => Answer::Ask(t),
+        methods::Kind::Done => ready_of(k, figures, &x, &e),
     }
 }
 
-// The run of s at rest.
-fn rested(s: Session) -> Session
-    ensures { λ r. ⌜ r ≡ rested s ⌝ }
-{
-    begun(s, 0.0, Attempt::None, [0.0; JACOBIAN])
+// What is told of a session with an attempt, unless it is refused by 6.
+struct Shown {
+    ok: bool,
+    answer: Answer,
 }
 
-// s with one answer more.
-fn answered(s: Session, answer: [f64; PLACES]) -> Session
-    requires { ⌜ s .count < answersKept ⌝ }
-    ensures { λ r. ⌜ r ≡ answered s answer ⌝ }
+// The question or the candidate fills the output.
+fn show(k: Numbers, figures: &[f64], out: &mut [f64]) -> Shown
+    requires { ⌜ (length (now figures) ≡ FIGURES) × Sound (sessionOf k (now figures)) ⌝ }
+    requires { ⌜ length (now out) ≡ k .n ⌝ }
+    ensures { λ r. ⌜ ((old : Session) → outcome (cond (r .ok) (tell (r .answer) (sessionOf k (now (figures .entry)))) (refuse old 6)) (now (out .exit))
+        ≡ shown old (sessionOf k (now (figures .entry))) (now (out .entry)) (progress (sessionOf k (now (figures .entry))))) ⌝ }
 {
-    let count = s.count;
-    let answers = s.answers;
-    let answers = places::put(answers, count, answer);
-    Session {
+    let w = run_pass(k, figures);
+    let x = w.state;
+    places::copy_if(w.ok, x, &mut *out);
+    if w.ok {
+        let kind = w.kind;
+        let e = w.error;
+        let answer = answer_of(k, figures, kind, x, e);
+        return Shown { ok: true, answer };
+    }
+    Shown {
+        ok: false,
+        answer: Answer::Refused(6),
+    }
+}
+
+// ---- what of a session changes
+
+// An attempt that has no answer yet, of a session at rest.
+fn put_attempt(
+    k: Numbers,
+    figures: &mut [f64],
+    step: f64,
+    attempt: Attempt,
+    jacobian: &[f64],
+) -> Numbers
+    requires { ⌜ (length (now figures) ≡ FIGURES) × (length (now jacobian) ≡ jacobianRoom) ⌝ }
+    requires { ⌜ fault (sessionTests (Wants.Only Phase.Rest) (sessionOf k (now figures))) ≡ 0 ⌝ }
+    requires { ⌜ clear (usedJacobian attempt (k .n)) (now jacobian) ≡ true ⌝ }
+    ensures { λ r. ⌜ sessionOf r (now (figures .exit)) ≡ begun (sessionOf k (now (figures .entry))) «step» attempt (now (jacobian .entry)) ⌝ }
+{
+    let used = used_jacobian(attempt, k.n);
+    figures[STEP_AT] = step;
+    figures::put(&jacobian[..used], &mut *figures, JACOBIAN_AT);
+    Numbers { attempt, ..k }
+}
+
+// One answer more.
+fn put_answer(k: Numbers, figures: &mut [f64], answer: &[f64]) -> Numbers
+    requires { ⌜ (length (now figures) ≡ FIGURES) × (length (now answer) ≡ places) ⌝ }
+    requires { ⌜ k .count < answersKept ⌝ }
+    ensures { λ r. ⌜ sessionOf r (now (figures .exit)) ≡ answered (sessionOf k (now (figures .entry))) (now (answer .entry)) ⌝ }
+{
+    let count = k.count;
+    figures::put(answer, &mut *figures, ANSWERS_AT + PLACES * count);
+    Numbers {
         count: count + 1,
-        answers,
-        ..s
+        ..k
     }
 }
 
-// What a refused open returns.
-fn nothing() -> Session
-    ensures { λ r. ⌜ r ≡ nothing ⌝ }
+// The places of the k-th answer hold nothing again.
+fn take_answer_back(k: Numbers, figures: &mut [f64])
+    requires { ⌜ (length (now figures) ≡ FIGURES) × (k .count < answersKept) ⌝ }
+    ensures { λ _. ⌜ now (figures .exit) ≡ stores (λ _ _. zero+) (answersAt + places * k .count) places (now (figures .entry)) ⌝ }
 {
-    Session {
-        scheme: 0,
-        n: 0,
-        time: 0.0,
-        state: [0.0; PLACES],
-        derivative: [0.0; PLACES],
-        relative: 0.0,
-        absolute: 0.0,
-        history: History::Missing,
-        previous: [0.0; PLACES],
+    let count = k.count;
+    figures::wipe(&mut *figures, ANSWERS_AT + PLACES * count, PLACES);
+}
+
+// No attempt: what it held is +0.0.
+fn rest(k: Numbers, figures: &mut [f64]) -> Numbers
+    requires { ⌜ length (now figures) ≡ FIGURES ⌝ }
+    requires { ⌜ fault (sessionTests Wants.Any (sessionOf k (now figures))) ≡ 0 ⌝ }
+    ensures { λ r. ⌜ sessionOf r (now (figures .exit)) ≡ rested (sessionOf k (now (figures .entry))) ⌝ }
+{
+    let attempt = k.attempt;
+    let used = used_jacobian(attempt, k.n);
+    figures[STEP_AT] = 0.0;
+    figures::wipe(&mut *figures, JACOBIAN_AT, used);
+    figures::wipe(&mut *figures, ANSWERS_AT, PLACES * k.count);
+    Numbers {
         attempt: Attempt::None,
-        step: 0.0,
-        jacobian: [0.0; JACOBIAN],
         count: 0,
-        answers: [0.0; ROOM],
+        ..k
     }
 }
 
-// s moved to a time and a state, at rest; Etd2 keeps the nonlinear part.
-fn moved(
-    s: Session,
+// A time and a state, at rest; Etd2 keeps the nonlinear part.
+fn move_on(
+    k: Numbers,
+    figures: &mut [f64],
     time: f64,
-    state: [f64; PLACES],
-    derivative: [f64; PLACES],
-    nonlinear: [f64; PLACES],
-) -> Session
-    ensures { λ r. ⌜ r ≡ moved s time state derivative nonlinear ⌝ }
+    state: &[f64],
+    derivative: &[f64],
+    nonlinear: &[f64],
+) -> Numbers
+    requires { ⌜ length (now figures) ≡ FIGURES ⌝ }
+    requires { ⌜ (length (now state) ≡ places) × (length (now derivative) ≡ places) × (length (now nonlinear) ≡ places) ⌝ }
+    requires { ⌜ fault (sessionTests Wants.Any (sessionOf k (now figures))) ≡ 0 ⌝ }
+    ensures { λ r. ⌜ sessionOf r (now (figures .exit)) ≡ moved (sessionOf k (now (figures .entry))) «time» (now (state .entry)) (now (derivative .entry)) (now (nonlinear .entry)) ⌝ }
 {
-    let rest = rested(s);
-    let next = Session {
-        time,
-        state,
-        derivative,
-        ..rest
-    };
-    if s.scheme == ETD2 {
-        return Session {
+    let next = rest(k, &mut *figures);
+    figures[TIME_AT] = time;
+    figures::put(state, &mut *figures, STATE_AT);
+    figures::put(derivative, &mut *figures, DERIVATIVE_AT);
+    if k.scheme == ETD2 {
+        figures::put(nonlinear, &mut *figures, PREVIOUS_AT);
+        return Numbers {
             history: History::Held,
-            previous: nonlinear,
             ..next
         };
     }
     next
 }
 
-// ---- what is told
-
-fn ready_of(s: Session, candidate: [f64; PLACES], error: [f64; PLACES]) -> Answer
-    requires { ⌜ Sound s ⌝ }
-    ensures { λ r. ⌜ r ≡ readyOf s candidate error ⌝ }
+// A run with no attempt, in all of the figures.
+fn put_run(
+    time: f64,
+    relative: f64,
+    absolute: f64,
+    state: &[f64],
+    derivative: &[f64],
+    previous: &[f64],
+    figures: &mut [f64],
+)
+    requires { ⌜ length (now figures) ≡ FIGURES ⌝ }
+    requires { ⌜ (length (now state) ≡ places) × (length (now derivative) ≡ places) × (length (now previous) ≡ places) ⌝ }
+    ensures { λ _. ⌜ ((k : Numbers) → k .attempt ≡ Attempt.None → k .count ≡ 0 → sessionOf k (now (figures .exit)) ≡ opened (record {
+        scheme = k .scheme;
+        n = k .n;
+        time = «time»;
+        state = now (state .entry);
+        derivative = now (derivative .entry);
+        relative = «relative»;
+        absolute = «absolute»;
+        history = k .history;
+        previous = now (previous .entry);
+      })) ⌝ }
 {
-    let n = s.n;
-    let attempt = s.attempt;
-    let state = s.state;
-    let rhs = wanted(s.scheme, n, attempt);
-    if (s.scheme == EXPRB32) | (s.scheme == EXPRB43) {
-        let norm = engine::scaled_error_norm(n, s.relative, s.absolute, state, candidate, error);
-        return Answer::Ready(norm, rhs as u32, 1);
-    }
-    Answer::Ready(0.0, rhs as u32, 1)
+    figures[TIME_AT] = time;
+    figures[STEP_AT] = 0.0;
+    figures[RELATIVE_AT] = relative;
+    figures[ABSOLUTE_AT] = absolute;
+    figures::put(state, &mut *figures, STATE_AT);
+    figures::put(derivative, &mut *figures, DERIVATIVE_AT);
+    figures::put(previous, &mut *figures, PREVIOUS_AT);
+    figures::wipe(&mut *figures, JACOBIAN_AT, JACOBIAN + ROOM);
 }
 
-fn answer_of(s: Session, kind: methods::Kind, x: [f64; PLACES], e: [f64; PLACES]) -> Answer
-    requires { ⌜ Sound s ⌝ }
-    ensures { λ r. ⌜ r ≡ answerOf s kind x e ⌝ }
+// What a refused open leaves: n and scheme 0, no attempt, no history, every figure +0.0.
+fn put_nothing(figures: &mut [f64]) -> Numbers
+    requires { ⌜ length (now figures) ≡ FIGURES ⌝ }
+    ensures { λ r. ⌜ sessionOf r (now (figures .exit)) ≡ nothing ⌝ }
 {
-    match kind {
-        methods::Kind::Question(t) => Answer::Ask(t),
-        methods::Kind::Done => ready_of(s, x, e),
+    figures::wipe(&mut *figures, 0, FIGURES);
+    no_numbers()
+}
+
+// Its numbers.
+fn no_numbers() -> Numbers
+    ensures { λ r. ⌜ r ≡ numbersOf nothing ⌝ }
+{
+    Numbers {
+        scheme: 0,
+        n: 0,
+        history: History::Missing,
+        attempt: Attempt::None,
+        count: 0,
     }
 }
 
-fn refused(s: Session, k: u8) -> Told
-    ensures { λ r. ⌜ r ≡ refuse s k ⌝ }
+// ---- the calls over lent figures: what is tested, what is worked out, what of the session changes
+
+fn refused(k: Numbers, fault: u8) -> Left
+    ensures { λ r. ⌜ r ≡ refusedBy k fault ⌝ }
 {
-    Told {
-        answer: Answer::Refused(k),
-        session: s,
+    Left {
+        answer: Answer::Refused(fault),
+        numbers: k,
     }
 }
 
-fn resting(s: Session) -> Told
-    ensures { λ r. ⌜ r ≡ tell Answer.Resting s ⌝ }
+fn resting(k: Numbers) -> Left
+    ensures { λ r. ⌜ r ≡ restingAt k ⌝ }
 {
-    Told {
+    Left {
         answer: Answer::Resting,
-        session: s,
+        numbers: k,
     }
 }
 
-// What is told of a session with an attempt; the old one goes back where it is refused.
-fn show(old: Session, s: Session, out: &mut [f64]) -> Told
-    requires { ⌜ Sound s ⌝ }
-    requires { ⌜ length (now out) ≡ s .n ⌝ }
-    ensures { λ r. ⌜ outcome r (now (out .exit)) ≡ shown old s (now (out .entry)) (progress s) ⌝ }
+fn open_over(
+    k: Numbers,
+    time: f64,
+    relative: f64,
+    absolute: f64,
+    state: &[f64],
+    derivative: &[f64],
+    previous: &[f64],
+    figures: &mut [f64],
+) -> Left
+    requires { ⌜ length (now figures) ≡ FIGURES ⌝ }
+    requires { ⌜ (length (now state) ≡ places) × (length (now derivative) ≡ places) × (length (now previous) ≡ places) ⌝ }
+    requires { ⌜ (k .attempt ≡ Attempt.None) × (k .count ≡ 0) ⌝ }
+    ensures { λ r. ⌜ toldBy r (now (figures .exit)) ≡ openCall (record {
+        scheme = k .scheme;
+        n = k .n;
+        time = «time»;
+        state = now (state .entry);
+        derivative = now (derivative .entry);
+        relative = «relative»;
+        absolute = «absolute»;
+        history = k .history;
+        previous = now (previous .entry);
+      }) ⌝ }
 {
-    let w = run_pass(s);
-    let x = w.state;
-    places::copy_if(w.ok, x, &mut *out);
-    if w.ok {
-        let kind = w.kind;
-        let e = w.error;
-        let answer = answer_of(s, kind, x, e);
-        return Told { answer, session: s };
+    let fault = run_fault(k, time, relative, absolute, state, derivative, previous);
+    if fault == 0 {
+        put_run(time, relative, absolute, state, derivative, previous, figures);
+        return resting(k);
     }
-    refused(old, 6)
+    refused(put_nothing(figures), fault)
+}
+
+fn begin_over(
+    k: Numbers,
+    figures: &mut [f64],
+    step: f64,
+    attempt: Attempt,
+    jacobian: &[f64],
+    out: &mut [f64],
+) -> Left
+    requires { ⌜ (length (now figures) ≡ FIGURES) × (length (now jacobian) ≡ jacobianRoom) ⌝ }
+    ensures { λ r. ⌜ ((wish : Wish) → attempt ≡ attemptOf wish
+        → outcome (toldBy r (now (figures .exit))) (now (out .exit)) ≡ beginCall (sessionOf k (now (figures .entry))) «step» wish (now (jacobian .entry)) (now (out .entry))) ⌝ }
+{
+    let fault = begin_fault(k, &*figures, step, attempt, jacobian, out.len());
+    if fault == 0 {
+        let next = put_attempt(k, &mut *figures, step, attempt, jacobian);
+        let shown = show(next, &*figures, &mut *out);
+        if shown.ok {
+            let answer = shown.answer;
+            return Left {
+                answer,
+                numbers: next,
+            };
+        }
+        return refused(rest(next, figures), 6);
+    }
+    refused(k, fault)
+}
+
+fn supply_over(k: Numbers, figures: &mut [f64], answer: &[f64], out: &mut [f64]) -> Left
+    requires { ⌜ (length (now figures) ≡ FIGURES) × (length (now answer) ≡ places) ⌝ }
+    ensures { λ r. ⌜ outcome (toldBy r (now (figures .exit))) (now (out .exit)) ≡ supplyCall (sessionOf k (now (figures .entry))) (now (answer .entry)) (now (out .entry)) ⌝ }
+{
+    let fault = supply_fault(k, &*figures, answer, out.len());
+    if fault == 0 {
+        let next = put_answer(k, &mut *figures, answer);
+        let shown = show(next, &*figures, &mut *out);
+        if shown.ok {
+            let answer = shown.answer;
+            return Left {
+                answer,
+                numbers: next,
+            };
+        }
+        take_answer_back(k, figures);
+        return refused(k, 6);
+    }
+    refused(k, fault)
 }
 
 // The candidate becomes the state; refused where the time is not finite.
 fn arrive(
-    s: Session,
+    k: Numbers,
+    figures: &mut [f64],
     candidate: [f64; PLACES],
-    derivative: [f64; PLACES],
+    derivative: &[f64],
     nonlinear: [f64; PLACES],
-) -> Told
-    ensures { λ r. ⌜ r ≡ arrived s candidate derivative nonlinear ⌝ }
+) -> Left
+    requires { ⌜ (length (now figures) ≡ FIGURES) × (length (now derivative) ≡ places) ⌝ }
+    requires { ⌜ fault (sessionTests Wants.Any (sessionOf k (now figures))) ≡ 0 ⌝ }
+    ensures { λ r. ⌜ toldBy r (now (figures .exit)) ≡ arrived (sessionOf k (now (figures .entry))) candidate (now (derivative .entry)) nonlinear ⌝ }
 {
-    let t = s.time + s.step;
+    let t = figures[TIME_AT] + figures[STEP_AT];
     if float::finite(t) {
-        return resting(moved(s, t, candidate, derivative, nonlinear));
+        return resting(move_on(k, figures, t, &candidate, derivative, &nonlinear));
     }
-    refused(s, 6)
+    refused(k, 6)
 }
 
-fn settle(s: Session, derivative: [f64; PLACES]) -> Told
-    requires { ⌜ Sound s ⌝ }
-    ensures { λ r. ⌜ r ≡ settled s derivative (progress s) ⌝ }
+fn settle(k: Numbers, figures: &mut [f64], derivative: &[f64]) -> Left
+    requires { ⌜ (length (now figures) ≡ FIGURES) × (length (now derivative) ≡ places) ⌝ }
+    requires { ⌜ fault (sessionTests Wants.Any (sessionOf k (now figures))) ≡ 0 ⌝ }
+    ensures { λ r. ⌜ toldBy r (now (figures .exit)) ≡ settled (sessionOf k (now (figures .entry))) (now (derivative .entry)) (progress (sessionOf k (now (figures .entry)))) ⌝ }
 {
-    let w = run_pass(s);
+    let w = run_pass(k, &*figures);
     let kind = w.kind;
     let candidate = w.state;
     let nonlinear = w.nonlinear;
     if w.ok {
         if let methods::Kind::Done = kind {
-            return arrive(s, candidate, derivative, nonlinear);
+            return arrive(k, figures, candidate, derivative, nonlinear);
         }
-        return refused(s, 6);
+        return refused(k, 6);
     }
-    refused(s, 6)
+    refused(k, 6)
+}
+
+fn accept_over(k: Numbers, figures: &mut [f64], derivative: &[f64]) -> Left
+    requires { ⌜ (length (now figures) ≡ FIGURES) × (length (now derivative) ≡ places) ⌝ }
+    ensures { λ r. ⌜ toldBy r (now (figures .exit)) ≡ acceptCall (sessionOf k (now (figures .entry))) (now (derivative .entry)) ⌝ }
+{
+    let fault = accept_fault(k, &*figures, derivative);
+    if fault == 0 {
+        return settle(k, figures, derivative);
+    }
+    refused(k, fault)
+}
+
+fn drop_over(k: Numbers, figures: &mut [f64]) -> Left
+    requires { ⌜ length (now figures) ≡ FIGURES ⌝ }
+    ensures { λ r. ⌜ toldBy r (now (figures .exit)) ≡ dropCall (sessionOf k (now (figures .entry))) ⌝ }
+{
+    let fault = session_fault(Wants::Any, k, &*figures);
+    if fault == 0 {
+        return resting(rest(k, figures));
+    }
+    refused(k, fault)
+}
+
+fn first_step_over(k: Numbers, figures: &[f64], largest: f64) -> Answer
+    requires { ⌜ length (now figures) ≡ FIGURES ⌝ }
+    ensures { λ r. ⌜ tell r (sessionOf k (now (figures .entry))) ≡ firstStepCall (sessionOf k (now (figures .entry))) «largest» ⌝ }
+{
+    let fault = first_step_fault(k, figures, largest);
+    if fault == 0 {
+        let h = engine::estimate_initial_step(
+            k.n,
+            figures[RELATIVE_AT],
+            figures[ABSOLUTE_AT],
+            &figures[STATE_AT..DERIVATIVE_AT],
+            &figures[DERIVATIVE_AT..PREVIOUS_AT],
+            largest,
+        );
+        return Answer::FirstStep(h);
+    }
+    Answer::Refused(fault)
+}
+
+impl Numbers {
+    // Opens a run: it rests.
+    pub fn open(
+        scheme: u8,
+        n: usize,
+        time: f64,
+        state: &[f64],
+        derivative: &[f64],
+        relative: f64,
+        absolute: f64,
+        history: History,
+        previous: &[f64],
+        figures: &mut [f64],
+    ) -> Left
+        ensures { λ r. ⌜ remains r (now (figures .exit)) ≡ lentOpen
+        (eqb (length (now (figures .entry))) FIGURES && eqb (length (now (state .entry))) places && eqb (length (now (derivative .entry))) places && eqb (length (now (previous .entry))) places)
+        (now (figures .entry)) (record {
+          scheme = scheme;
+          n = n;
+          time = «time»;
+          state = now (state .entry);
+          derivative = now (derivative .entry);
+          relative = «relative»;
+          absolute = «absolute»;
+          history = history;
+          previous = now (previous .entry);
+        }) ⌝ }
+    {
+        if (figures.len() == FIGURES)
+            & (state.len() == PLACES)
+            & (derivative.len() == PLACES)
+            & (previous.len() == PLACES)
+        {
+            let k = Numbers {
+                scheme,
+                n,
+                history,
+                attempt: Attempt::None,
+                count: 0,
+            };
+            return open_over(k, time, relative, absolute, state, derivative, previous, figures);
+        }
+        refused(no_numbers(), 1)
+    }
+
+    // Begins an attempt: the first question, or the candidate where there is none, fills `out`.
+    pub fn begin(
+        self,
+        figures: &mut [f64],
+        step: f64,
+        wish: Wish,
+        jacobian: &[f64],
+        out: &mut [f64],
+    ) -> Left
+        ensures { λ r. ⌜ fills r (now (figures .exit)) (now (out .exit)) ≡ lentFill
+        (eqb (length (now (figures .entry))) FIGURES && eqb (length (now (jacobian .entry))) jacobianRoom)
+        self (now (figures .entry)) (now (out .entry)) (λ s o. beginCall s «step» wish (now (jacobian .entry)) o) ⌝ }
+    {
+        if (figures.len() == FIGURES) & (jacobian.len() == JACOBIAN) {
+            return begin_over(self, figures, step, attempt_of(wish), jacobian, out);
+        }
+        refused(self, 1)
+    }
+
+    // Supplies the derivative that was asked for: the next question, or the candidate, fills `out`.
+    pub fn supply(self, figures: &mut [f64], answer: &[f64], out: &mut [f64]) -> Left
+        ensures { λ r. ⌜ fills r (now (figures .exit)) (now (out .exit)) ≡ lentFill
+        (eqb (length (now (figures .entry))) FIGURES && eqb (length (now (answer .entry))) places)
+        self (now (figures .entry)) (now (out .entry)) (λ s o. supplyCall s (now (answer .entry)) o) ⌝ }
+    {
+        if (figures.len() == FIGURES) & (answer.len() == PLACES) {
+            return supply_over(self, figures, answer, out);
+        }
+        refused(self, 1)
+    }
+
+    // Accepts the candidate, with the derivative there.
+    pub fn accept(self, figures: &mut [f64], derivative: &[f64]) -> Left
+        ensures { λ r. ⌜ remains r (now (figures .exit)) ≡ lentCall
+        (eqb (length (now (figures .entry))) FIGURES && eqb (length (now (derivative .entry))) places)
+        self (now (figures .entry)) (λ s. acceptCall s (now (derivative .entry))) ⌝ }
+    {
+        if (figures.len() == FIGURES) & (derivative.len() == PLACES) {
+            return accept_over(self, figures, derivative);
+        }
+        refused(self, 1)
+    }
+
+    // Drops the attempt, if there is one.
+    pub fn drop(self, figures: &mut [f64]) -> Left
+        ensures { λ r. ⌜ remains r (now (figures .exit)) ≡ lentCall (eqb (length (now (figures .entry))) FIGURES) self (now (figures .entry)) dropCall ⌝ }
+    {
+        if figures.len() == FIGURES {
+            return drop_over(self, figures);
+        }
+        refused(self, 1)
+    }
+
+    // The first step that the run's figures suggest, at most `largest`. The session stays as it is.
+    pub fn first_step(self, figures: &[f64], largest: f64) -> Answer
+        ensures { λ r. ⌜ r ≡ lentAsk (eqb (length (now (figures .entry))) FIGURES) (firstStepCall (sessionOf self (now (figures .entry))) «largest») ⌝ }
+    {
+        if figures.len() == FIGURES {
+            return first_step_over(self, figures, largest);
+        }
+        Answer::Refused(1)
+    }
+}
+
+// ---- a session by value as numbers and figures, and back
+
+impl Session {
+    pub fn numbers(self) -> Numbers
+        ensures { λ r. ⌜ r ≡ numbersOf self ⌝ }
+    {
+        let history = self.history;
+        let attempt = self.attempt;
+        Numbers {
+            scheme: self.scheme,
+            n: self.n,
+            history,
+            attempt,
+            count: self.count,
+        }
+    }
+
+    pub fn figures(self) -> [f64; FIGURES]
+        ensures { λ r. ⌜ r ≡ figuresOf self ⌝ }
+    {
+        let state = self.state;
+        let derivative = self.derivative;
+        let previous = self.previous;
+        let jacobian = self.jacobian;
+        let answers = self.answers;
+        let mut figures = [0.0; FIGURES];
+        figures[TIME_AT] = self.time;
+        figures[STEP_AT] = self.step;
+        figures[RELATIVE_AT] = self.relative;
+        figures[ABSOLUTE_AT] = self.absolute;
+        figures::put(&state, &mut figures, STATE_AT);
+        figures::put(&derivative, &mut figures, DERIVATIVE_AT);
+        figures::put(&previous, &mut figures, PREVIOUS_AT);
+        figures::put(&jacobian, &mut figures, JACOBIAN_AT);
+        figures::put(&answers, &mut figures, ANSWERS_AT);
+        figures
+    }
+
+    pub fn of(k: Numbers, figures: [f64; FIGURES]) -> Session
+        ensures { λ r. ⌜ r ≡ sessionOf k figures ⌝ }
+    {
+        let history = k.history;
+        let attempt = k.attempt;
+        let state = figures::vector_at(&figures, STATE_AT);
+        let derivative = figures::vector_at(&figures, DERIVATIVE_AT);
+        let previous = figures::vector_at(&figures, PREVIOUS_AT);
+        let jacobian = figures::matrix_at(&figures, JACOBIAN_AT);
+        let answers = figures::answers_at(&figures, ANSWERS_AT);
+        Session {
+            scheme: k.scheme,
+            n: k.n,
+            time: figures[TIME_AT],
+            state,
+            derivative,
+            relative: figures[RELATIVE_AT],
+            absolute: figures[ABSOLUTE_AT],
+            history,
+            previous,
+            attempt,
+            step: figures[STEP_AT],
+            jacobian,
+            count: k.count,
+            answers,
+        }
+    }
+}
+
+// The session that a call left in the figures, with its answer.
+fn given_back(left: Left, figures: [f64; FIGURES]) -> Told
+    ensures { λ r. ⌜ r ≡ toldBy left figures ⌝ }
+{
+    let answer = left.answer;
+    let k = left.numbers;
+    Told {
+        answer,
+        session: Session::of(k, figures),
+    }
 }
 
 // ---- the calls
@@ -754,94 +1280,68 @@ impl Session {
           previous = previous;
         }) ⌝ }
     {
-        let none = nothing();
-        let s = Session {
+        let mut figures = [0.0; FIGURES];
+        let left = Numbers::open(
             scheme,
             n,
             time,
-            state,
-            derivative,
+            &state,
+            &derivative,
             relative,
             absolute,
             history,
-            previous,
-            ..none
-        };
-        let k = session_fault(Wants::Any, s);
-        if k == 0 {
-            return resting(s);
-        }
-        refused(none, k)
+            &previous,
+            &mut figures,
+        );
+        given_back(left, figures)
     }
 
     // Begins an attempt: the first question, or the candidate where there is none, fills `out`.
     pub fn begin(self, step: f64, wish: Wish, jacobian: [f64; JACOBIAN], out: &mut [f64]) -> Told
         ensures { λ r. ⌜ outcome r (now (out .exit)) ≡ beginCall self step wish jacobian (now (out .entry)) ⌝ }
     {
-        let a = attempt_of(wish);
-        let k = begin_fault(self, step, a, jacobian, out.len());
-        if k == 0 {
-            return show(self, begun(self, step, a, jacobian), &mut *out);
-        }
-        refused(self, k)
+        let mut figures = self.figures();
+        let left = self.numbers().begin(&mut figures, step, wish, &jacobian, &mut *out);
+        given_back(left, figures)
     }
 
     // Supplies the derivative that was asked for: the next question, or the candidate, fills `out`.
     pub fn supply(self, answer: [f64; PLACES], out: &mut [f64]) -> Told
         ensures { λ r. ⌜ outcome r (now (out .exit)) ≡ supplyCall self answer (now (out .entry)) ⌝ }
     {
-        let k = supply_fault(self, answer, out.len());
-        if k == 0 {
-            return show(self, answered(self, answer), &mut *out);
-        }
-        refused(self, k)
+        let mut figures = self.figures();
+        let left = self.numbers().supply(&mut figures, &answer, &mut *out);
+        given_back(left, figures)
     }
 
     // Accepts the candidate, with the derivative there.
     pub fn accept(self, derivative: [f64; PLACES]) -> Told
         ensures { λ r. ⌜ r ≡ acceptCall self derivative ⌝ }
     {
-        let kept = self;
-        let k = accept_fault(self, derivative);
-        if k == 0 {
-            return settle(self, derivative);
-        }
-        refused(kept, k)
+        let mut figures = self.figures();
+        let left = self.numbers().accept(&mut figures, &derivative);
+        given_back(left, figures)
     }
 
     // Drops the attempt, if there is one.
     pub fn drop(self) -> Told
         ensures { λ r. ⌜ r ≡ dropCall self ⌝ }
     {
-        let k = session_fault(Wants::Any, self);
-        if k == 0 {
-            return resting(rested(self));
-        }
-        refused(self, k)
+        let mut figures = self.figures();
+        let left = self.numbers().drop(&mut figures);
+        given_back(left, figures)
     }
 
     // The first step that the run's figures suggest, at most `largest`.
     pub fn first_step(self, largest: f64) -> Told
         ensures { λ r. ⌜ r ≡ firstStepCall self largest ⌝ }
     {
-        let k = first_step_fault(self, largest);
-        if k == 0 {
-            let state = self.state;
-            let derivative = self.derivative;
-            let h = engine::estimate_initial_step(
-                self.n,
-                self.relative,
-                self.absolute,
-                state,
-                derivative,
-                largest,
-            );
-            return Told {
-                answer: Answer::FirstStep(h),
-                session: self,
-            };
+        let figures = self.figures();
+        let answer = self.numbers().first_step(&figures, largest);
+        Told {
+            answer,
+            session: self,
         }
-        refused(self, k)
     }
 }
 
@@ -924,18 +1424,18 @@ fn norm_fault(
 ) -> u8
     ensures { λ r. ⌜ r ≡ fault (normTests n relative absolute error state candidate) ⌝ }
 {
+    let calm = evaluation::all_finite(&error)
+        & evaluation::all_finite(&state)
+        & evaluation::all_finite(&candidate);
     if !((1 <= n)
         & (n <= PLACES)
-        & places::clear(&error, n)
-        & places::clear(&state, n)
-        & places::clear(&candidate, n)) {
+        & places::clear(&error, n, calm)
+        & places::clear(&state, n, calm)
+        & places::clear(&candidate, n, calm)) {
         return 1;
     }
     if positive(relative) & positive(absolute) {
-        if evaluation::all_finite(&error)
-            & evaluation::all_finite(&state)
-            & evaluation::all_finite(&candidate)
-        {
+        if calm {
             return 0;
         }
         return 3;
@@ -957,12 +1457,7 @@ pub fn error_norm(
     let k = norm_fault(n, relative, absolute, error, state, candidate);
     if k == 0 {
         return Answer::Norm(engine::scaled_error_norm(
-            n,
-            relative,
-            absolute,
-            state,
-            candidate,
-            error,
+            n, relative, absolute, &state, &candidate, &error,
         ));
     }
     Answer::Refused(k)

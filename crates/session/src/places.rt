@@ -1,17 +1,42 @@
 // Places of an array: which are in use, and copies.
 ghost use mathlib.Core.Path.{_≡_};
-ghost use mathlib.Core.Bool.{cond};
-ghost use Prim.Native.Nat.{_*_, _≤_, _<_};
+ghost use mathlib.Core.Bool.{true, cond};
+ghost use Prim.Native.Nat.{_+_, _-_, _*_, _≤_, _<_};
 ghost use lib.ListN.{length};
-ghost use Rattle.loops.specs.Loop.{tab, stores, _!_};
-ghost use Rattle.evaluation.specs.Sizes.{places, answersKept};
+ghost use Rattle.loops.specs.Loop.{tab, every, _!_};
+ghost use Rattle.evaluation.specs.Sizes.{places, answerRoom};
+ghost use Rattle.float.specs.Arith.{plusZero};
+ghost use Rattle.evaluation.specs.Evaluation.{allFinite};
 ghost use Rattle.matrix.specs.Vector.{vec};
 ghost use Rattle.session.specs.Session.{clear, clearAnswers};
 use evaluation::PLACES;
 use evaluation::ROOM;
 
-// Whether the places from `used` on are +0.0.
-pub fn clear(x: &[f64], used: usize) -> bool
+// Whether the places from `from` to `to` hold nothing but +0.0, of numbers that are finite: no bit is set in any of them.
+fn blank(x: &[f64], from: usize, to: usize) -> bool
+    requires { ⌜ (from ≤ to) × (to ≤ length (now x)) × (allFinite (now x) ≡ true) ⌝ }
+    ensures { λ r. ⌜ r ≡ every (to - from) (λ i. plusZero (now (x .entry) ! (from + i))) ⌝ }
+{
+    let mut bits: u64 = 0;
+    for i in from..to {
+        bits = bits | f64::to_bits(x[i]);
+    }
+    bits == 0
+}
+
+// Whether the places from `used` on are +0.0; `calm` says that every place is finite.
+pub fn clear(x: &[f64], used: usize, calm: bool) -> bool
+    requires { ⌜ («calm» ≡ true → allFinite (now x) ≡ true) ⌝ }
+    ensures { λ r. ⌜ r ≡ clear used (now (x .entry)) ⌝ }
+{
+    if calm {
+        return blank(x, used, x.len());
+    }
+    clear_each(x, used)
+}
+
+// The same, place by place.
+fn clear_each(x: &[f64], used: usize) -> bool
     ensures { λ r. ⌜ r ≡ clear used (now (x .entry)) ⌝ }
 {
     let mut ok = true;
@@ -22,7 +47,28 @@ pub fn clear(x: &[f64], used: usize) -> bool
 }
 
 // Whether the places that hold no entry of an answer are +0.0.
-pub fn clear_answers(x: &[f64], count: usize, n: usize) -> bool
+pub fn clear_answers(x: &[f64], count: usize, n: usize, calm: bool) -> bool
+    requires { ⌜ (length (now x) ≡ answerRoom) × (n ≤ places) × («calm» ≡ true → allFinite (now x) ≡ true) ⌝ }
+    ensures { λ r. ⌜ r ≡ clearAnswers count n (now (x .entry)) ⌝ }
+{
+    if calm {
+        if count <= evaluation::ANSWERS {
+            return blank_answers(x, count, n) & blank(x, PLACES * count, ROOM);
+        }
+    }
+    clear_answers_each(x, count, n)
+}
+
+// Past n, of the first answers.
+fn blank_answers(x: &[f64], count: usize, n: usize) -> bool {
+    let mut ok = true;
+    for k in 0..count {
+        ok = ok & blank(x, PLACES * k + n, PLACES * k + PLACES);
+    }
+    ok
+}
+
+fn clear_answers_each(x: &[f64], count: usize, n: usize) -> bool
     ensures { λ r. ⌜ r ≡ clearAnswers count n (now (x .entry)) ⌝ }
 {
     let mut ok = true;
@@ -63,17 +109,4 @@ pub fn vector(x: &[f64], n: usize) -> [f64; PLACES]
         out[i] = x[i];
     }
     out
-}
-
-// x stored among the answers as the k-th.
-pub fn put(answers: [f64; ROOM], k: usize, x: [f64; PLACES]) -> [f64; ROOM]
-    requires { ⌜ k < answersKept ⌝ }
-    ensures { λ r. ⌜ r ≡ stores (λ i _. x ! i) (places * k) places answers ⌝ }
-{
-    let mut all = answers;
-    let at = PLACES * k;
-    for i in 0..PLACES {
-        all[at + i] = x[i];
-    }
-    all
 }

@@ -1,26 +1,5 @@
--- `session::error_norm` meets its contract. Assumes nothing.
-use borrow.Author.Needs.{needs}
-use mathlib.Core.Path.{sym, _∙_}
-use Rattle.session.specs.Tests.{unless}
-use Rattle.session.specs.Bare.{normCall}
-use Rattle.session.proofs.Tests.{unless-refused}
-use Rattle.session.proofs.Laws.{norm-sized}
 use Rattle.session.proofs.error_norm.Statement.{statement}
 use Rattle.session.proofs.error_norm.Tie as tie
 
 pub error-norm-spec : {M : Type 1} → statement M
-unfolding normCall unless
-error-norm-spec =
-    tie.close
-    (tie.spec
-    (λ c κs. search needs)
-    (λ c κs.
-    let c1 = c .before in
-    norm-sized _ _ _ _ _ _ (sym (c1 .norm-fault .ensures) ∙ c .if1 .taken))
-    (λ c.
-    let c1 = c .before in
-    let c2 = c1 .before in
-    rw (← (c2 .norm-fault .ensures), c1 .if1 .taken, c .scaled-error-norm .ensures))
-    (λ c.
-    let c1 = c .before in
-    rw (← (c1 .norm-fault .ensures)) (unless-refused _ _ _ (c .if1 .left))))
+error-norm-spec = ?

@@ -1,11 +1,9 @@
 -- `session::good4` meets its contract. Assumes nothing.
 use borrow.Author.Needs.{needs}
-use Rattle.session.specs.Session.{good4}
 use Rattle.session.proofs.good4.Statement.{statement}
 use Rattle.session.proofs.good4.Tie as tie
 
 pub good4-spec : {M : Type 1} → statement M
-unfolding good4
 good4-spec =
     tie.close
     (tie.spec

@@ -9,8 +9,8 @@ unfolding good7
 good7-spec =
     tie.close
     (tie.spec
-    (λ c κs. c .pre)
+    (λ c κs. search needs)
     (λ c κs. search needs)
     (λ c.
     let c1 = c .before in
-    rw (← (c1 .phase-of .ensures)) (c .admits .ensures)))
+    λ figures. rw (← (c1 .phase-of .ensures figures)) (c .admits .ensures)))

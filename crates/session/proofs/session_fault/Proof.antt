@@ -1,19 +1,27 @@
 -- `session::session_fault` meets its contract. Assumes nothing.
 use borrow.Author.Needs.{needs}
 use mathlib.Core.Path.{sym, _∙_}
+use native.Mathlib.Omega.{arith}
 use borrow.Author.Tests.{not-false}
-use Rattle.session.specs.Session.{sessionTests}
+use Rattle.session.specs.Session.{sessionTests, good4}
+use Rattle.session.specs.Figures.{sessionOf}
 use Rattle.session.proofs.Tests.{stops, holds-on, all-hold}
 use Rattle.session.proofs.Laws.{good1-size}
+use Rattle.session.proofs.Parts.{time-then}
 use Rattle.session.proofs.session_fault.Statement.{statement}
 use Rattle.session.proofs.session_fault.Tie as tie
 
 pub session-fault-spec : {M : Type 1} → statement M
-unfolding sessionTests
+unfolding sessionTests good4 sessionOf
 session-fault-spec =
     tie.close
     (tie.spec
-    (λ c κs. search needs)
+    (λ c κs.
+    let c1 = c .before in
+    c1 .pre)
+    (λ c κs.
+    let c2 = c .before .before in
+    (c2 .pre, λ e. sym (c .arrays-finite .ensures _) ∙ e))
     (λ c.
     let c1 = c .before in
     stops 1 _ (c1 .good1 .ensures) (c .if1 .taken))
@@ -24,84 +32,107 @@ session-fault-spec =
     let c1 = c .before in
     let c2 = c1 .before in
     let c3 = c2 .before in
-    holds-on 1 _ (c3 .good1 .ensures) (c2 .if1 .left)
-    (stops 2 _ (c1 .good2 .ensures) (c .if2 .taken)))
+    holds-on 1 _ (c3 .good1 .ensures) (c2 .if1 .left) (stops 2 _ (c1 .good2 .ensures _) (c .if2 .taken)))
     (λ c κs.
     let c2 = c .before .before in
     let c3 = c2 .before in
     good1-size _ (sym (c3 .good1 .ensures) ∙ not-false (c3 .good1 .result) (c2 .if1 .left)) .1)
-    (λ c κs. search needs)
-    (λ c κs. search needs)
+    (λ c.
+    let c4 = c .before .before .before .before in
+    let c8 = c4 .before .before .before .before in
+    omega (arith, c8 .pre))
+    (λ c.
+    let c4 = c .before .before .before .before in
+    let c8 = c4 .before .before .before .before in
+    let c9 = c8 .before in
+    omega (arith, c9 .pre))
     (λ c κs. search needs)
     (λ c.
     let c4 = c .before .before .before .before in
-    let c5 = c4 .before in
-    let c6 = c5 .before in
-    let c7 = c6 .before in
-    let c8 = c7 .before in
-    holds-on 1 _ (c8 .good1 .ensures) (c7 .if1 .left)
-    (holds-on 2 _ (c6 .good2 .ensures) (c5 .if2 .left)
-    (stops 7 _ (c4 .good7 .ensures) (c .if3 .taken))))
+    let c8 = c4 .before .before .before .before in
+    let c11 = c8 .before .before .before in
+    omega (arith, c11 .pre))
+    (λ c κs. search needs)
+    (λ c.
+    let c4 = c .before .before .before .before in
+    let c8 = c4 .before .before .before .before in
+    let c12 = c8 .before .before .before .before in
+    let c13 = c12 .before in
+    omega (arith, c13 .pre))
+    (λ c κs. search needs)
+    (λ c.
+    let c4 = c .before .before .before .before in
+    let c8 = c4 .before .before .before .before in
+    let c9 = c8 .before in
+    let c10 = c9 .before in
+    let c11 = c10 .before in
+    let c12 = c11 .before in
+    holds-on 1 _ (c12 .good1 .ensures) (c11 .if1 .left)
+    (holds-on 2 _ (c10 .good2 .ensures _) (c9 .if2 .left)
+    (stops 7 _ (c8 .good7 .ensures _) (c .if3 .taken))))
     (λ c.
     let c1 = c .before in
-    let c4 = c1 .before .before .before in
-    let c5 = c4 .before in
+    let c5 = c1 .before .before .before .before in
     let c6 = c5 .before in
-    let c7 = c6 .before in
-    let c8 = c7 .before in
-    let c9 = c8 .before in
-    holds-on 1 _ (c9 .good1 .ensures) (c8 .if1 .left)
-    (holds-on 2 _ (c7 .good2 .ensures) (c6 .if2 .left)
-    (holds-on 7 _ (c5 .good7 .ensures) (c1 .if3 .left)
-    (stops 4 _ (c4 .good4 .ensures) (c .if4 .taken)))))
+    let c9 = c6 .before .before .before in
+    let c10 = c9 .before in
+    let c11 = c10 .before in
+    let c12 = c11 .before in
+    let c13 = c12 .before in
+    holds-on 1 _ (c13 .good1 .ensures) (c12 .if1 .left)
+    (holds-on 2 _ (c11 .good2 .ensures _) (c10 .if2 .left)
+    (holds-on 7 _ (c9 .good7 .ensures _) (c1 .if3 .left)
+    (stops 4 _ (c6 .good4 .ensures) (c .if4 .taken)))))
     (λ c.
     let c1 = c .before in
     let c2 = c1 .before in
-    let c4 = c2 .before .before in
-    let c5 = c4 .before in
-    let c6 = c5 .before in
-    let c7 = c6 .before in
-    let c8 = c7 .before in
-    let c9 = c8 .before in
-    let c10 = c9 .before in
-    holds-on 1 _ (c10 .good1 .ensures) (c9 .if1 .left)
-    (holds-on 2 _ (c8 .good2 .ensures) (c7 .if2 .left)
-    (holds-on 7 _ (c6 .good7 .ensures) (c2 .if3 .left)
-    (holds-on 4 _ (c5 .good4 .ensures) (c1 .if4 .left)
-    (stops 5 _ (c4 .good5 .ensures) (c .if5 .taken))))))
+    let c5 = c2 .before .before .before in
+    let c7 = c5 .before .before in
+    let c10 = c7 .before .before .before in
+    let c11 = c10 .before in
+    let c12 = c11 .before in
+    let c13 = c12 .before in
+    let c14 = c13 .before in
+    holds-on 1 _ (c14 .good1 .ensures) (c13 .if1 .left)
+    (holds-on 2 _ (c12 .good2 .ensures _) (c11 .if2 .left)
+    (holds-on 7 _ (c10 .good7 .ensures _) (c2 .if3 .left)
+    (holds-on 4 _ (c7 .good4 .ensures) (c1 .if4 .left)
+    (stops 5 _ (c5 .good5 .ensures) (c .if5 .taken))))))
     (λ c.
     let c1 = c .before in
     let c2 = c1 .before in
     let c3 = c2 .before in
     let c4 = c3 .before in
-    let c5 = c4 .before in
-    let c6 = c5 .before in
-    let c7 = c6 .before in
-    let c8 = c7 .before in
-    let c9 = c8 .before in
-    let c10 = c9 .before in
-    let c11 = c10 .before in
-    holds-on 1 _ (c11 .good1 .ensures) (c10 .if1 .left)
-    (holds-on 2 _ (c9 .good2 .ensures) (c8 .if2 .left)
-    (holds-on 7 _ (c7 .good7 .ensures) (c3 .if3 .left)
-    (holds-on 4 _ (c6 .good4 .ensures) (c2 .if4 .left)
-    (holds-on 5 _ (c5 .good5 .ensures) (c1 .if5 .left)
-    (stops 3 _ (c4 .good3 .ensures) (c .if6 .taken)))))))
+    let c6 = c4 .before .before in
+    let c8 = c6 .before .before in
+    let c11 = c8 .before .before .before in
+    let c12 = c11 .before in
+    let c13 = c12 .before in
+    let c14 = c13 .before in
+    let c15 = c14 .before in
+    let c16 = c15 .before in
+    holds-on 1 _ (c15 .good1 .ensures) (c14 .if1 .left)
+    (holds-on 2 _ (c13 .good2 .ensures _) (c12 .if2 .left)
+    (holds-on 7 _ (c11 .good7 .ensures _) (c3 .if3 .left)
+    (holds-on 4 _ (c8 .good4 .ensures) (c2 .if4 .left)
+    (holds-on 5 _ (c6 .good5 .ensures) (c1 .if5 .left)
+    (stops 3 _ (time-then _ _ (c4 .finite .ensures) (c16 .arrays-finite .ensures _)) (c .if6 .taken)))))))
     (λ c.
     let c1 = c .before in
     let c2 = c1 .before in
     let c3 = c2 .before in
     let c4 = c3 .before in
-    let c5 = c4 .before in
-    let c6 = c5 .before in
-    let c7 = c6 .before in
-    let c8 = c7 .before in
-    let c9 = c8 .before in
-    let c10 = c9 .before in
-    let c11 = c10 .before in
-    holds-on 1 _ (c11 .good1 .ensures) (c10 .if1 .left)
-    (holds-on 2 _ (c9 .good2 .ensures) (c8 .if2 .left)
-    (holds-on 7 _ (c7 .good7 .ensures) (c3 .if3 .left)
-    (holds-on 4 _ (c6 .good4 .ensures) (c2 .if4 .left)
-    (holds-on 5 _ (c5 .good5 .ensures) (c1 .if5 .left)
-    (holds-on 3 _ (c4 .good3 .ensures) (c .if6 .left) all-hold)))))))
+    let c6 = c4 .before .before in
+    let c8 = c6 .before .before in
+    let c11 = c8 .before .before .before in
+    let c12 = c11 .before in
+    let c13 = c12 .before in
+    let c14 = c13 .before in
+    let c15 = c14 .before in
+    let c16 = c15 .before in
+    holds-on 1 _ (c15 .good1 .ensures) (c14 .if1 .left)
+    (holds-on 2 _ (c13 .good2 .ensures _) (c12 .if2 .left)
+    (holds-on 7 _ (c11 .good7 .ensures _) (c3 .if3 .left)
+    (holds-on 4 _ (c8 .good4 .ensures) (c2 .if4 .left)
+    (holds-on 5 _ (c6 .good5 .ensures) (c1 .if5 .left)
+    (holds-on 3 _ (time-then _ _ (c4 .finite .ensures) (c16 .arrays-finite .ensures _)) (c .if6 .left) all-hold)))))))

@@ -1,0 +1,5 @@
+use Rattle.session.proofs.Session.numbers.Statement.{statement}
+use Rattle.session.proofs.Session.numbers.Tie as tie
+
+pub numbers-spec : {M : Type 1} → statement M
+numbers-spec = ?
