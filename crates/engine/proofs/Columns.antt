@@ -20,7 +20,7 @@ use Rattle.matrix.proofs.Vectors.{length-vec, vec-at, vec-clear}
 use Rattle.engine.specs.Engine.{delta, perturbedEntry, perturbed, jacobianEntry, columnOk}
 
 -- ---- a column
-zero-finite : finite zero+ ≡ true
+pub zero-finite : finite zero+ ≡ true
 unfolding finite ofBits
 zero-finite = refl
 
