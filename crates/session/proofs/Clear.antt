@@ -15,29 +15,20 @@ use lib.Seq.{ext-getD}
 use borrow.Author.Tests.{lt-ltb, ltb-true, eq-eqb, eqb-true}
 use Rattle.loops.proofs.Bools.{both-true}
 use Rattle.loops.specs.Loop.{every, stores, _!_}
-use Rattle.loops.proofs.Loops.{every-at}
+use Rattle.loops.proofs.Loops.{every-at, every-of}
 use Rattle.loops.proofs.Stores.{length-stores, stores-in, stores-out}
 use Rattle.float.specs.Arith.{zero+, finite, plusZero, abs}
 use Rattle.float.proofs.Floats.{abs-zero}
 use Rattle.evaluation.specs.Evaluation.{allFinite}
+use Rattle.engine.proofs.Columns.{zero-finite}
 use Rattle.methods.specs.Shape.{Vector}
 use Rattle.session.specs.Session.{clear, inAnswers, clearAnswers}
 use Rattle.session.specs.Claims.{Doubles}
 
--- ---- every
-every-of : (n : ℕ) (f : ℕ → Bool) → ((i : ℕ) → i < n → f i ≡ true) → every n f ≡ true
-unfolding every
-every-of zero f h = refl
-every-of (suc n) f h = rw (every-of n f (λ i l. h i (omega arith)), h n (omega arith))
-
 -- ---- +0.0
-zero-plus : plusZero zero+ ≡ true
+pub zero-plus : plusZero zero+ ≡ true
 unfolding plusZero ofBits
 zero-plus = refl
-
-zero-finite : finite zero+ ≡ true
-unfolding finite ofBits
-zero-finite = refl
 
 -- ---- lists that hold nothing
 pub clear-zeros : (used k : ℕ) → clear used (replicate k zero+) ≡ true

@@ -40,11 +40,8 @@ module _ (r : Run) where
   run-places = refl
 
   places : good1 (opened r) ≡ cond (sizeOk (r .n)) openPlaces false
-  places =
-      (unfold good1 in refl)
-      ∙ ap (λ (b : Bool). cond (sizeOk (opened r .n)) (runPlaces (opened r) && b) false) idle-places
-      ∙ ap (λ (b : Bool). cond (sizeOk (opened r .n)) b false) (and-true (runPlaces (opened r)) ∙ run-places)
-      ∙ (unfold opened in refl)
+  unfolding good1
+  places = rw (run-places, idle-places, and-true openPlaces) (unfold opened in refl)
 
   figures : good3 (opened r) ≡ (finite (r .time) && allFinite (r .state) && allFinite (r .derivative) && allFinite (r .previous))
   unfolding good3 opened idle fresh
@@ -55,4 +52,4 @@ module _ (r : Run) where
       ≡ fault ((sizeOk (r .n), 1) ∷ (openPlaces, 1) ∷ (good2 (opened r), 2) ∷ (positive (r .relative) && positive (r .absolute), 4)
       ∷ (finite (r .time) && allFinite (r .state) && allFinite (r .derivative) && allFinite (r .previous), 3) ∷ [])
   unfolding sessionTests good7 admits good4 good5 fault
-  opening = ?
+  opening = rw (places, figures) (one-row _ _ _ _)

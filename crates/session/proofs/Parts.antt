@@ -1,12 +1,12 @@
 -- Figures one behind the other: what is read after a run of stores, and a session's numbers and figures as its own. Assumes nothing.
 use Prim.Native.Nat.{ℕ, zero, suc, _+_, _-_, _*_, _≤_, _<_}
-use native.Mathlib.Nat.{zero-add, add-zero, suc-add, add-suc, add-assoc}
+use native.Mathlib.Nat.{zero-add, suc-add, add-assoc}
 use native.Mathlib.Numerals.{add-one}
 use native.Mathlib.Decide.{decLt}
 use native.Mathlib.Omega.{arith}
 use mathlib.Core.Path.{_≡_, refl, sym, ap, _∙_, subst}
 use mathlib.Core.Logic.{_≢_}
-use mathlib.Core.Bool.{Bool, true, _&&_, and-true, and-assoc}
+use mathlib.Core.Bool.{Bool, true, false, _&&_, and-assoc}
 use mathlib.Core.List.{List, [], _∷_, _++_, append-assoc}
 use lib.Dec.{T}
 use lib.Ieee.{Float, nan, binary64, fits}
@@ -24,6 +24,7 @@ use Rattle.session.specs.declared.Numbers.{Numbers}
 use Rattle.session.specs.Session.{jacobianRoom, good3}
 use Rattle.session.specs.Claims.{Doubles, Typed}
 use Rattle.session.specs.Figures.{FIGURES, timeAt, stepAt, relativeAt, absoluteAt, stateAt, derivativeAt, previousAt, jacobianAt, answersAt}
+use Rattle.session.proofs.Blank.{every-split}
 use Rattle.session.specs.Lent.{arraysFinite}
 use Rattle.session.specs.Figures.{part, first, sessionOf, numbersOf, arrays, behind, figuresOf}
 
@@ -154,11 +155,6 @@ typed-of k x s d = record {
 
 -- ---- finite parts
 
-every-split : (m n : ℕ) (f : ℕ → Bool) → every (m + n) f ≡ (every m f && every n (λ i. f (m + i)))
-unfolding every
-every-split m zero f = rw add-zero (sym (and-true (every m f)))
-every-split m (suc n) f = rw (add-suc, every-split m n f) (and-assoc (every m f) (every n (λ i. f (m + i))) (f (m + n)))
-
 finite-each : (x : List Float) (at n : ℕ) → allFinite (part x at n) ≡ every n (λ i. finite (x ! (at + i)))
 unfolding allFinite
 finite-each x at n =
@@ -183,14 +179,15 @@ all-arrays k x e =
     ∙ ap (λ (b : Bool). b && allFinite (part x previousAt 16)) (finite-split x stateAt 16 16)))
 
 -- the test of 3: the time first, then the arrays
+after-all : (t a b c d e : Bool) → (t && (a && b && c && d && e)) ≡ (t && a && b && c && d && e)
+after-all true a b c d e = refl
+after-all false a b c d e = refl
+
 pub time-then : (k : Numbers) (x : List Float) {a b : Bool} → a ≡ finite (x ! timeAt) → b ≡ arraysFinite (sessionOf k x) → (a && b) ≡ good3 (sessionOf k x)
-unfolding good3 sessionOf
+unfolding good3
 time-then k x {a} {b} e f =
-    rw (e, f)
-    (sym (and-assoc _ _ _)
-    ∙ ap (λ (c : Bool). c && allFinite (part x answersAt answerRoom)) (sym (and-assoc _ _ _)
-    ∙ ap (λ (c : Bool). c && allFinite (part x jacobianAt jacobianRoom)) (sym (and-assoc _ _ _)
-    ∙ ap (λ (c : Bool). c && allFinite (part x previousAt places)) (sym (and-assoc _ _ _)))))
+    let t : a ≡ finite (sessionOf k x .time) = unfold sessionOf in e in
+    rw (t, f) (after-all (finite (sessionOf k x .time)) _ _ _ _ _)
 
 -- a part of the arrays is finite where all are
 module _ (k : Numbers) (x : List Float) (e : arraysFinite (sessionOf k x) ≡ true) where

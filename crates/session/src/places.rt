@@ -1,20 +1,22 @@
 // Places of an array: which are in use, and copies.
 ghost use mathlib.Core.Path.{_≡_};
 ghost use mathlib.Core.Bool.{true, cond};
-ghost use Prim.Native.Nat.{_+_, _-_, _*_, _≤_, _<_};
+ghost use Prim.Native.Nat.{_+_, _-_, _*_, _≤_};
 ghost use lib.ListN.{length};
-ghost use Rattle.loops.specs.Loop.{tab, every, _!_};
-ghost use Rattle.evaluation.specs.Sizes.{places, answerRoom};
+ghost use Rattle.loops.specs.Loop.{every, tab, _!_};
 ghost use Rattle.float.specs.Arith.{plusZero};
 ghost use Rattle.evaluation.specs.Evaluation.{allFinite};
+ghost use Rattle.evaluation.specs.Sizes.{places, answersKept, answerRoom};
 ghost use Rattle.matrix.specs.Vector.{vec};
 ghost use Rattle.session.specs.Session.{clear, clearAnswers};
+use evaluation::ANSWERS;
 use evaluation::PLACES;
 use evaluation::ROOM;
 
-// Whether the places from `from` to `to` hold nothing but +0.0, of numbers that are finite: no bit is set in any of them.
+// Whether the places from `from` up to `to` are +0.0, of finite numbers: no bit is set in any of them.
 fn blank(x: &[f64], from: usize, to: usize) -> bool
-    requires { ⌜ (from ≤ to) × (to ≤ length (now x)) × (allFinite (now x) ≡ true) ⌝ }
+    requires { ⌜ to ≤ length (now x) ⌝ }
+    requires { ⌜ allFinite (now x) ≡ true ⌝ }
     ensures { λ r. ⌜ r ≡ every (to - from) (λ i. plusZero (now (x .entry) ! (from + i))) ⌝ }
 {
     let mut bits: u64 = 0;
@@ -24,18 +26,7 @@ fn blank(x: &[f64], from: usize, to: usize) -> bool
     bits == 0
 }
 
-// Whether the places from `used` on are +0.0; `calm` says that every place is finite.
-pub fn clear(x: &[f64], used: usize, calm: bool) -> bool
-    requires { ⌜ («calm» ≡ true → allFinite (now x) ≡ true) ⌝ }
-    ensures { λ r. ⌜ r ≡ clear used (now (x .entry)) ⌝ }
-{
-    if calm {
-        return blank(x, used, x.len());
-    }
-    clear_each(x, used)
-}
-
-// The same, place by place.
+// Whether the places from `used` on are +0.0, place by place.
 fn clear_each(x: &[f64], used: usize) -> bool
     ensures { λ r. ⌜ r ≡ clear used (now (x .entry)) ⌝ }
 {
@@ -46,28 +37,18 @@ fn clear_each(x: &[f64], used: usize) -> bool
     ok
 }
 
-// Whether the places that hold no entry of an answer are +0.0.
-pub fn clear_answers(x: &[f64], count: usize, n: usize, calm: bool) -> bool
-    requires { ⌜ (length (now x) ≡ answerRoom) × (n ≤ places) × («calm» ≡ true → allFinite (now x) ≡ true) ⌝ }
-    ensures { λ r. ⌜ r ≡ clearAnswers count n (now (x .entry)) ⌝ }
+// The same; `calm` says that every place is finite.
+pub fn clear(x: &[f64], used: usize, calm: bool) -> bool
+    requires { ⌜ (calm ≡ true → allFinite (now x) ≡ true) ⌝ }
+    ensures { λ r. ⌜ r ≡ clear used (now (x .entry)) ⌝ }
 {
     if calm {
-        if count <= evaluation::ANSWERS {
-            return blank_answers(x, count, n) & blank(x, PLACES * count, ROOM);
-        }
+        return blank(x, used, x.len());
     }
-    clear_answers_each(x, count, n)
+    clear_each(x, used)
 }
 
-// Past n, of the first answers.
-fn blank_answers(x: &[f64], count: usize, n: usize) -> bool {
-    let mut ok = true;
-    for k in 0..count {
-        ok = ok & blank(x, PLACES * k + n, PLACES * k + PLACES);
-    }
-    ok
-}
-
+// Whether the places that hold no entry of an answer are +0.0, place by place.
 fn clear_answers_each(x: &[f64], count: usize, n: usize) -> bool
     ensures { λ r. ⌜ r ≡ clearAnswers count n (now (x .entry)) ⌝ }
 {
@@ -76,6 +57,33 @@ fn clear_answers_each(x: &[f64], count: usize, n: usize) -> bool
         ok = ok & (((i / PLACES < count) & (i % PLACES < n)) | float::plus_zero(x[i]));
     }
     ok
+}
+
+// Whether each of the first answers is +0.0 past n.
+fn blank_answers(x: &[f64], count: usize, n: usize) -> bool
+    requires { ⌜ (length (now x) ≡ answerRoom) × (count ≤ answersKept) × (n ≤ places) ⌝ }
+    requires { ⌜ allFinite (now x) ≡ true ⌝ }
+    ensures { λ r. ⌜ r ≡ every count (λ k. every (places - n) (λ i. plusZero (now (x .entry) ! (places * k + n + i)))) ⌝ }
+{
+    let mut ok = true;
+    for k in 0..count {
+        ok = ok & blank(x, PLACES * k + n, PLACES * k + PLACES);
+    }
+    ok
+}
+
+// The same of the places that hold no entry of an answer; `calm` says that every place is finite.
+pub fn clear_answers(x: &[f64], count: usize, n: usize, calm: bool) -> bool
+    requires { ⌜ (length (now x) ≡ answerRoom) × (n ≤ places) ⌝ }
+    requires { ⌜ (calm ≡ true → allFinite (now x) ≡ true) ⌝ }
+    ensures { λ r. ⌜ r ≡ clearAnswers count n (now (x .entry)) ⌝ }
+{
+    if calm {
+        if count <= ANSWERS {
+            return blank_answers(x, count, n) & blank(x, PLACES * count, ROOM);
+        }
+    }
+    clear_answers_each(x, count, n)
 }
 
 // The first places of x into all of out.

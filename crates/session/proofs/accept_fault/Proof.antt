@@ -1,5 +1,24 @@
+-- `session::accept_fault` meets its contract. Assumes nothing.
+use borrow.Author.Needs.{needs}
+use Rattle.session.specs.Calls.{acceptTests}
+use Rattle.session.specs.Figures.{sessionOf}
+use Rattle.session.proofs.Laws.{session-then, session-fails}
 use Rattle.session.proofs.accept_fault.Statement.{statement}
 use Rattle.session.proofs.accept_fault.Tie as tie
 
 pub accept-fault-spec : {M : Type 1} → statement M
-accept-fault-spec = ?
+unfolding acceptTests sessionOf
+accept-fault-spec =
+    tie.close
+    (tie.spec
+    (λ c κs.
+    let c2 = c .before .before in
+    c2 .pre)
+    (λ c κs. search needs)
+    (λ c.
+    let c1 = c .before in
+    let c2 = c1 .before in
+    session-then _ _ _ (c2 .session-fault .ensures) (c1 .if1 .taken) (c .vector-fault .ensures))
+    (λ c.
+    let c1 = c .before in
+    session-fails _ _ _ (c1 .session-fault .ensures) (c .if1 .left)))

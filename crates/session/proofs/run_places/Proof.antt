@@ -1,5 +1,26 @@
+-- `session::run_places` meets its contract. Assumes nothing.
+use borrow.Author.Needs.{needs}
+use Rattle.session.specs.Session.{usedHistory}
 use Rattle.session.proofs.run_places.Statement.{statement}
 use Rattle.session.proofs.run_places.Tie as tie
 
 pub run-places-spec : {M : Type 1} → statement M
-run-places-spec = ?
+run-places-spec =
+    tie.close
+    (tie.spec
+    (λ c κs.
+    let c3 = c .before .before .before in
+    c3 .pre .0)
+    (λ c κs.
+    let c4 = c .before .before .before .before in
+    c4 .pre .1)
+    (λ c κs. search needs)
+    (λ c κs.
+    let c4 = c .before .before .before .before in
+    let c6 = c4 .before .before in
+    c6 .pre .2)
+    (λ c.
+    let c1 = c .before in
+    let c2 = c1 .before in
+    let c3 = c2 .before in
+    rw (c .clear3 .ensures, c1 .used-history .ensures, c2 .clear2 .ensures, c3 .clear .ensures)))

@@ -3,9 +3,9 @@ use Prim.Native.Nat.{_-_, _≤_}
 use native.Mathlib.Omega.{arith}
 use mathlib.Core.Path.{_≡_, refl}
 use lib.ListN.{length, length-set}
+use Rattle.float.specs.Arith.{zero+}
 use Rattle.loops.specs.Loop.{stores}
 use Rattle.loops.proofs.Loops.{stores-none, stores-step, stores-end}
-use Rattle.float.specs.Arith.{zero+}
 use Rattle.session.proofs.figures.wipe.Statement.{statement}
 use Rattle.session.proofs.figures.wipe.Tie as tie
 
