@@ -67,7 +67,7 @@ none-answers : (n : ℕ) (x : List Float) → clearAnswers 0 n x ≡ true → (i
 unfolding clearAnswers
 none-answers n x e i l = rw (leb·suc-zero (i / 16)) at (every-at (length x) _ e i l)
 
-idle-trial : (s : Session) → Typed s → fault (sessionTests (Only Rest) s) ≡ 0 → trialOf s ≡ idle
+pub idle-trial : (s : Session) → Typed s → fault (sessionTests (Only Rest) s) ≡ 0 → trialOf s ≡ idle
 unfolding idle fresh
 idle-trial s t e =
     let g = passed-good (Only Rest) s e in
@@ -80,7 +80,7 @@ idle-trial s t e =
     nothing-in answerRoom (s .answers) (t .answers) (λ i l. none-answers (s .n) (s .answers) (rw count at (g .answers)) i (omega (arith, t .answers .places))) in
     λ i. record { attempt = none i; step = step i; jacobian = jacobian i; count = count i; answers = answers i }
 
-rested-same : (s : Session) → Typed s → fault (sessionTests (Only Rest) s) ≡ 0 → rested s ≡ s
+pub rested-same : (s : Session) → Typed s → fault (sessionTests (Only Rest) s) ≡ 0 → rested s ≡ s
 unfolding rested opened
 rested-same s t e = ap (joined (runOf s)) (sym (idle-trial s t e))
 

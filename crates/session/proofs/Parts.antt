@@ -21,7 +21,7 @@ use Rattle.evaluation.specs.Evaluation.{allFinite}
 use Rattle.evaluation.specs.Sizes.{places, answerRoom}
 use Rattle.session.specs.declared.Session.{Session}
 use Rattle.session.specs.declared.Numbers.{Numbers}
-use Rattle.session.specs.Session.{jacobianRoom, good3}
+use Rattle.session.specs.Session.{jacobianRoom, good3, positive, good4, good5}
 use Rattle.session.specs.Claims.{Doubles, Typed}
 use Rattle.session.specs.Figures.{FIGURES, timeAt, stepAt, relativeAt, absoluteAt, stateAt, derivativeAt, previousAt, jacobianAt, answersAt}
 use Rattle.session.proofs.Blank.{every-split}
@@ -125,6 +125,9 @@ slice-part x at n h = is-part x (take n (drop at x)) at n (length-take-le n (dro
     taken : (x : List Float) (at n i : ℕ) → i < n → take n (drop at x) ! i ≡ x ! (at + i)
     taken x at n i l = some (drop at x) n i l ∙ dropped x at i
 
+pub slice-long : (x : List Float) (at n : ℕ) → at + n ≤ length x → length (take n (drop at x)) ≡ n
+slice-long x at n h = ap length (slice-part x at n h) ∙ length-part x at n
+
 -- ---- a session of figures
 
 -- what the code's types give of figures
@@ -188,6 +191,15 @@ unfolding good3
 time-then k x {a} {b} e f =
     let t : a ≡ finite (sessionOf k x .time) = unfold sessionOf in e in
     rw (t, f) (after-all (finite (sessionOf k x .time)) _ _ _ _ _)
+
+-- the tests of 4 and of 5, from what the code reads
+pub run-tolerances : (k : Numbers) (x : List Float) {b : Bool} → b ≡ (positive (x ! relativeAt) && positive (x ! absoluteAt)) → b ≡ good4 (sessionOf k x)
+unfolding good4 sessionOf
+run-tolerances k x e = e
+
+pub attempt-step : (k : Numbers) (x : List Float) {b : Bool} → b ≡ good5 (k .attempt) (x ! stepAt) → b ≡ good5 (sessionOf k x .attempt) (sessionOf k x .step)
+unfolding sessionOf
+attempt-step k x e = e
 
 -- a part of the arrays is finite where all are
 module _ (k : Numbers) (x : List Float) (e : arraysFinite (sessionOf k x) ≡ true) where

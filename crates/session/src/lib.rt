@@ -764,7 +764,8 @@ fn put_attempt(
 fn put_answer(k: Numbers, figures: &mut [f64], answer: &[f64]) -> Numbers
     requires { ⌜ (length (now figures) ≡ FIGURES) × (length (now answer) ≡ places) ⌝ }
     requires { ⌜ k .count < answersKept ⌝ }
-    ensures { λ r. ⌜ sessionOf r (now (figures .exit)) ≡ answered (sessionOf k (now (figures .entry))) (now (answer .entry)) ⌝ }
+    ensures { λ r. ⌜ (sessionOf r (now (figures .exit)) ≡ answered (sessionOf k (now (figures .entry))) (now (answer .entry)))
+        × (now (figures .exit) ≡ stores (λ i _. now (answer .entry) ! i) (answersAt + places * k .count) places (now (figures .entry))) ⌝ }
 {
     let count = k.count;
     figures::put(answer, &mut *figures, ANSWERS_AT + PLACES * count);
@@ -942,14 +943,15 @@ fn begin_over(
     k: Numbers,
     figures: &mut [f64],
     step: f64,
-    attempt: Attempt,
+    wish: Wish,
     jacobian: &[f64],
     out: &mut [f64],
 ) -> Left
     requires { ⌜ (length (now figures) ≡ FIGURES) × (length (now jacobian) ≡ jacobianRoom) ⌝ }
-    ensures { λ r. ⌜ ((wish : Wish) → attempt ≡ attemptOf wish
-        → outcome (toldBy r (now (figures .exit))) (now (out .exit)) ≡ beginCall (sessionOf k (now (figures .entry))) «step» wish (now (jacobian .entry)) (now (out .entry))) ⌝ }
+    ensures { λ r. ⌜ outcome (toldBy r (now (figures .exit))) (now (out .exit))
+        ≡ beginCall (sessionOf k (now (figures .entry))) «step» wish (now (jacobian .entry)) (now (out .entry)) ⌝ }
 {
+    let attempt = attempt_of(wish);
     let fault = begin_fault(k, &*figures, step, attempt, jacobian, out.len());
     if fault == 0 {
         let next = put_attempt(k, &mut *figures, step, attempt, jacobian);
@@ -1124,7 +1126,7 @@ impl Numbers {
         self (now (figures .entry)) (now (out .entry)) (λ s o. beginCall s «step» wish (now (jacobian .entry)) o) ⌝ }
     {
         if (figures.len() == FIGURES) & (jacobian.len() == JACOBIAN) {
-            return begin_over(self, figures, step, attempt_of(wish), jacobian, out);
+            return begin_over(self, figures, step, wish, jacobian, out);
         }
         refused(self, 1)
     }

@@ -2,12 +2,10 @@
 use borrow.Author.Needs.{needs}
 use native.Mathlib.Omega.{arith}
 use mathlib.Core.Path.{refl, ap, _∙_}
-use lib.ListN.{length-drop}
-use lib.Seq.{length-take-le}
 use Rattle.evaluation.specs.Evaluation.{allFinite}
 use Rattle.session.specs.Session.{attemptPlaces, stepClear, clear, clearAnswers}
 use Rattle.session.specs.Figures.{sessionOf}
-use Rattle.session.proofs.Parts.{jacobian-slice, answers-slice, jacobian-calm, answers-calm, length-part, slice-part}
+use Rattle.session.proofs.Parts.{jacobian-slice, answers-slice, jacobian-calm, answers-calm, slice-long}
 use Rattle.session.proofs.attempt_places.Statement.{statement}
 use Rattle.session.proofs.attempt_places.Tie as tie
 
@@ -41,11 +39,10 @@ attempt-places-spec =
     (λ c κs.
     let c4 = c .before .before .before .before in
     let c7 = c4 .before .before .before in
-    ((length-take-le _ _ (omega (arith, length-drop 308 (c7 .args .figures .now), c7 .pre .0 .0)), c7 .pre .0 .1), λ e. ap allFinite (answers-slice (c7 .args .k) _ (c7 .pre .0 .0)) ∙ answers-calm (c7 .args .k) _ (c7 .pre .1 e)))
+    ((slice-long (c7 .args .figures .now) 308 320 (omega (arith, c7 .pre .0 .0)), c7 .pre .0 .1), λ e. ap allFinite (answers-slice (c7 .args .k) _ (c7 .pre .0 .0)) ∙ answers-calm (c7 .args .k) _ (c7 .pre .1 e)))
     (λ c.
     let c2 = c .before .before in
     let c3 = c2 .before in
     let c5 = c3 .before .before in
     let c8 = c5 .before .before .before in
-    let s = sessionOf (c8 .args .k) (c8 .args .figures .now) in
     rw (c5 .step-clear .ensures, c2 .clear .ensures, c3 .used-jacobian .ensures, c .clear-answers .ensures, jacobian-slice (c8 .args .k) _ (c8 .pre .0 .0), answers-slice (c8 .args .k) _ (c8 .pre .0 .0)) (unfold sessionOf in refl)))

@@ -1,5 +1,10 @@
+-- `session::refused` meets its contract. Assumes nothing.
+use borrow.Author.Needs.{needs}
 use Rattle.session.proofs.refused.Statement.{statement}
 use Rattle.session.proofs.refused.Tie as tie
 
 pub refused-spec : {M : Type 1} → statement M
-refused-spec = ?
+refused-spec =
+    tie.close
+    (tie.spec
+    (λ c. search needs))

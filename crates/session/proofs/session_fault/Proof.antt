@@ -3,16 +3,16 @@ use borrow.Author.Needs.{needs}
 use mathlib.Core.Path.{sym, _∙_}
 use native.Mathlib.Omega.{arith}
 use borrow.Author.Tests.{not-false}
-use Rattle.session.specs.Session.{sessionTests, good4}
+use Rattle.session.specs.Session.{sessionTests}
 use Rattle.session.specs.Figures.{sessionOf}
 use Rattle.session.proofs.Tests.{stops, holds-on, all-hold}
 use Rattle.session.proofs.Laws.{good1-size}
-use Rattle.session.proofs.Parts.{time-then}
+use Rattle.session.proofs.Parts.{time-then, run-tolerances, attempt-step}
 use Rattle.session.proofs.session_fault.Statement.{statement}
 use Rattle.session.proofs.session_fault.Tie as tie
 
 pub session-fault-spec : {M : Type 1} → statement M
-unfolding sessionTests good4
+unfolding sessionTests
 session-fault-spec =
     tie.close
     (tie.spec
@@ -27,7 +27,7 @@ session-fault-spec =
     stops 1 _ (c1 .good1 .ensures) (c .if1 .taken))
     (λ c κs.
     let c1 = c .before in
-    good1-size _ (sym (c1 .good1 .ensures) ∙ not-false (c1 .good1 .result) (c .if1 .left)) .1)
+    unfold sessionOf in (good1-size _ (sym (c1 .good1 .ensures) ∙ not-false (c1 .good1 .result) (c .if1 .left)) .1))
     (λ c.
     let c1 = c .before in
     let c2 = c1 .before in
@@ -36,7 +36,7 @@ session-fault-spec =
     (λ c κs.
     let c2 = c .before .before in
     let c3 = c2 .before in
-    good1-size _ (sym (c3 .good1 .ensures) ∙ not-false (c3 .good1 .result) (c2 .if1 .left)) .1)
+    unfold sessionOf in (good1-size _ (sym (c3 .good1 .ensures) ∙ not-false (c3 .good1 .result) (c2 .if1 .left)) .1))
     (λ c.
     let c4 = c .before .before .before .before in
     let c8 = c4 .before .before .before .before in
@@ -82,7 +82,7 @@ session-fault-spec =
     holds-on 1 _ (c13 .good1 .ensures) (c12 .if1 .left)
     (holds-on 2 _ (c11 .good2 .ensures _) (c10 .if2 .left)
     (holds-on 7 _ (c9 .good7 .ensures _) (c1 .if3 .left)
-    (stops 4 _ (unfold sessionOf in c6 .good4 .ensures) (c .if4 .taken)))))
+    (stops 4 _ (run-tolerances _ _ (c6 .good4 .ensures)) (c .if4 .taken)))))
     (λ c.
     let c1 = c .before in
     let c2 = c1 .before in
@@ -96,8 +96,8 @@ session-fault-spec =
     holds-on 1 _ (c14 .good1 .ensures) (c13 .if1 .left)
     (holds-on 2 _ (c12 .good2 .ensures _) (c11 .if2 .left)
     (holds-on 7 _ (c10 .good7 .ensures _) (c2 .if3 .left)
-    (holds-on 4 _ (unfold sessionOf in c7 .good4 .ensures) (c1 .if4 .left)
-    (stops 5 _ (unfold sessionOf in c5 .good5 .ensures) (c .if5 .taken))))))
+    (holds-on 4 _ (run-tolerances _ _ (c7 .good4 .ensures)) (c1 .if4 .left)
+    (stops 5 _ (attempt-step _ _ (c5 .good5 .ensures)) (c .if5 .taken))))))
     (λ c.
     let c1 = c .before in
     let c2 = c1 .before in
@@ -114,8 +114,8 @@ session-fault-spec =
     holds-on 1 _ (c15 .good1 .ensures) (c14 .if1 .left)
     (holds-on 2 _ (c13 .good2 .ensures _) (c12 .if2 .left)
     (holds-on 7 _ (c11 .good7 .ensures _) (c3 .if3 .left)
-    (holds-on 4 _ (unfold sessionOf in c8 .good4 .ensures) (c2 .if4 .left)
-    (holds-on 5 _ (unfold sessionOf in c6 .good5 .ensures) (c1 .if5 .left)
+    (holds-on 4 _ (run-tolerances _ _ (c8 .good4 .ensures)) (c2 .if4 .left)
+    (holds-on 5 _ (attempt-step _ _ (c6 .good5 .ensures)) (c1 .if5 .left)
     (stops 3 _ (time-then _ _ (c4 .finite .ensures) (c16 .arrays-finite .ensures _)) (c .if6 .taken)))))))
     (λ c.
     let c1 = c .before in
@@ -133,6 +133,6 @@ session-fault-spec =
     holds-on 1 _ (c15 .good1 .ensures) (c14 .if1 .left)
     (holds-on 2 _ (c13 .good2 .ensures _) (c12 .if2 .left)
     (holds-on 7 _ (c11 .good7 .ensures _) (c3 .if3 .left)
-    (holds-on 4 _ (unfold sessionOf in c8 .good4 .ensures) (c2 .if4 .left)
-    (holds-on 5 _ (unfold sessionOf in c6 .good5 .ensures) (c1 .if5 .left)
+    (holds-on 4 _ (run-tolerances _ _ (c8 .good4 .ensures)) (c2 .if4 .left)
+    (holds-on 5 _ (attempt-step _ _ (c6 .good5 .ensures)) (c1 .if5 .left)
     (holds-on 3 _ (time-then _ _ (c4 .finite .ensures) (c16 .arrays-finite .ensures _)) (c .if6 .left) all-hold)))))))
