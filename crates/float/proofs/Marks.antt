@@ -10,11 +10,7 @@ use lib.Ieee.{Float, nan, inf, fin, binary64, up, down, add, sub, neg, sum, roun
 use lib.Ieee.Fits.{down-pos}
 use lib.Ieee.Scale.{round-same}
 use borrow.Author.Tests.{le-ltb}
-use Rattle.float.specs.Arith.{_⊕_, _⊖_, zero+, finite}
-
--- +0.0 for true, a NaN for false
-unfoldable pub mark : Bool → Float
-mark b = cond b zero+ nan
+use Rattle.float.specs.Arith.{_⊕_, _⊖_, zero+, finite, mark}
 
 -- nothing, rounded
 round-none : (c : ℕ) → 0 < c → round binary64 false 0 c ≡ zero+
