@@ -2,10 +2,9 @@
 use native.Mathlib.Omega.{arith}
 use mathlib.Core.Path.{ap, _∙_}
 use Rattle.evaluation.specs.Evaluation.{allFinite}
-use Rattle.evaluation.specs.Sizes.{places, answerRoom}
-use Rattle.session.specs.Figures.{stateAt, derivativeAt, answersAt, sessionOf}
+use Rattle.session.specs.Figures.{sessionOf}
 use Rattle.session.proofs.Parts.{state-slice, derivative-slice, answers-slice}
-use Rattle.session.proofs.Attempts.{lent-length}
+use Rattle.session.proofs.Attempts.{lent-lengths}
 use Rattle.session.proofs.columns_ok.Statement.{statement}
 use Rattle.session.proofs.columns_ok.Tie as tie
 
@@ -31,9 +30,11 @@ columns-ok-spec =
     omega (arith, c3 .pre .0 .0))
     (λ c κs.
     let c4 = c .before .before .before .before in
-    let lent = lent-length (c4 .args .figures .now) (c4 .pre .0 .0) in
-    (c4 .pre .0 .1 .small, (c4 .pre .1, ((lent stateAt places (omega arith), lent derivativeAt places (omega arith), lent answersAt answerRoom (omega arith)), ap allFinite (state-slice (c4 .args .k) _ (c4 .pre .0 .0)) ∙ c4 .pre .0 .1 .calm))))
+    let calm = ap allFinite (state-slice (c4 .args .k) _ (c4 .pre .0 .0)) ∙ c4 .pre .0 .1 .calm in
+    (c4 .pre .0 .1 .small, (c4 .pre .1, (lent-lengths (c4 .args .figures .now) (c4 .pre .0 .0), calm))))
     (λ c.
     let c4 = c .before .before .before .before in
     let c5 = c4 .before in
-    rw (← (state-slice (c5 .args .k) _ (c5 .pre .0 .0)), ← (derivative-slice (c5 .args .k) _ (c5 .pre .0 .0)), ← (answers-slice (c5 .args .k) _ (c5 .pre .0 .0))) (c .columns-ok .ensures)))
+    let k = c5 .args .k in
+    let e = c5 .pre .0 .0 in
+    rw (← (state-slice k _ e), ← (derivative-slice k _ e), ← (answers-slice k _ e)) (c .columns-ok .ensures)))

@@ -1,15 +1,14 @@
 -- `session::first_step_over` meets its contract. Assumes nothing.
 use native.Mathlib.Omega.{arith}
 use mathlib.Core.Path.{sym, _∙_}
-use Rattle.evaluation.specs.Sizes.{places}
 use Rattle.session.specs.declared.Wants.the-variants.{Any}
 use Rattle.session.specs.Tests.{unless}
-use Rattle.session.specs.Figures.{stateAt, derivativeAt, sessionOf}
+use Rattle.session.specs.Figures.{sessionOf}
 use Rattle.session.specs.Calls.{firstStepCall}
 use Rattle.session.proofs.Tests.{unless-refused}
 use Rattle.session.proofs.Laws.{first-step-passes, fault-none}
 use Rattle.session.proofs.Parts.{state-slice, derivative-slice}
-use Rattle.session.proofs.Attempts.{lent-length}
+use Rattle.session.proofs.Attempts.{lent-lengths}
 use Rattle.session.proofs.first_step_over.Statement.{statement}
 use Rattle.session.proofs.first_step_over.Tie as tie
 
@@ -44,7 +43,8 @@ first-step-over-spec =
     let c4 = c .before .before .before .before in
     let c5 = c4 .before in
     let c7 = c5 .before .before in
-    (fault-none Any _ (first-step-passes _ _ (sym (c5 .first-step-fault .ensures) ∙ c4 .if1 .taken)) .small, (lent-length (c7 .args .figures .now) (c7 .pre) stateAt places (omega arith), lent-length (c7 .args .figures .now) (c7 .pre) derivativeAt places (omega arith))))
+    let lent = lent-lengths (c7 .args .figures .now) (c7 .pre) in
+    (fault-none Any _ (first-step-passes _ _ (sym (c5 .first-step-fault .ensures) ∙ c4 .if1 .taken)) .small, (lent .0, lent .1)))
     (λ c.
     let c4 = c .before .before .before .before in
     let c5 = c4 .before in

@@ -1,6 +1,6 @@
 -- `session::norm_fault` meets its contract. Assumes nothing.
 use borrow.Author.Needs.{needs}
-use mathlib.Core.Path.{refl, sym, _∙_}
+use mathlib.Core.Path.{sym, _∙_}
 use mathlib.Core.Bool.{_&&_}
 use lib.Dec.{leb}
 use borrow.Author.Tests.{not-true, not-false}
@@ -64,7 +64,20 @@ norm-fault-spec =
     let c15 = c13 .before .before in
     let c17 = c15 .before .before in
     let first = not-false (leb 1 (c17 .args .n) && leb (c17 .args .n) places && c9 .clear .result && c7 .clear2 .result && c5 .clear3 .result) (c4 .if1 .left) in
-    rw (← (c9 .clear .ensures), ← (c7 .clear2 .ensures), ← (c5 .clear3 .ensures), first, ← (c3 .positive .ensures), ← (c2 .positive2 .ensures), c1 .if2 .taken, ← (c15 .all-finite .ensures), ← (c13 .all-finite2 .ensures), ← (c11 .all-finite3 .ensures), c .if3 .taken))
+    rw (
+      ← (c9 .clear .ensures),
+      ← (c7 .clear2 .ensures),
+      ← (c5 .clear3 .ensures),
+      first,
+      ← (c3 .positive .ensures),
+      ← (c2 .positive2 .ensures),
+      c1 .if2 .taken,
+      ←
+          (c15 .all-finite .ensures),
+      ← (c13 .all-finite2 .ensures),
+      ← (c11 .all-finite3 .ensures),
+      c .if3 .taken,
+    ))
     (λ c.
     let c1 = c .before in
     let c2 = c1 .before in
@@ -78,7 +91,20 @@ norm-fault-spec =
     let c15 = c13 .before .before in
     let c17 = c15 .before .before in
     let first = not-false (leb 1 (c17 .args .n) && leb (c17 .args .n) places && c9 .clear .result && c7 .clear2 .result && c5 .clear3 .result) (c4 .if1 .left) in
-    rw (← (c9 .clear .ensures), ← (c7 .clear2 .ensures), ← (c5 .clear3 .ensures), first, ← (c3 .positive .ensures), ← (c2 .positive2 .ensures), c1 .if2 .taken, ← (c15 .all-finite .ensures), ← (c13 .all-finite2 .ensures), ← (c11 .all-finite3 .ensures), c .if3 .left))
+    rw (
+      ← (c9 .clear .ensures),
+      ← (c7 .clear2 .ensures),
+      ← (c5 .clear3 .ensures),
+      first,
+      ← (c3 .positive .ensures),
+      ← (c2 .positive2 .ensures),
+      c1 .if2 .taken,
+      ←
+          (c15 .all-finite .ensures),
+      ← (c13 .all-finite2 .ensures),
+      ← (c11 .all-finite3 .ensures),
+      c .if3 .left,
+    ))
     (λ c.
     let c1 = c .before in
     let c2 = c1 .before in

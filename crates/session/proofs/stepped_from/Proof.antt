@@ -2,10 +2,9 @@
 use borrow.Author.Needs.{needs}
 use native.Mathlib.Omega.{arith}
 use Rattle.session.specs.Session.{pointOf}
-use Rattle.session.specs.Figures.{FIGURES, stateAt, derivativeAt, answersAt, sessionOf}
-use Rattle.evaluation.specs.Sizes.{places, answerRoom}
+use Rattle.session.specs.Figures.{sessionOf}
 use Rattle.session.proofs.Parts.{state-slice, derivative-slice, answers-slice}
-use Rattle.session.proofs.Attempts.{lent-length}
+use Rattle.session.proofs.Attempts.{lent-lengths}
 use Rattle.session.proofs.stepped_from.Statement.{statement}
 use Rattle.session.proofs.stepped_from.Tie as tie
 
@@ -32,8 +31,7 @@ stepped-from-spec =
     (λ c κs.
     let c4 = c .before .before .before .before in
     let c6 = c4 .before .before in
-    let lent = lent-length (c6 .args .figures .now) (c6 .pre .0 .0) in
-    (c6 .pre .0 .1 .small, ((lent stateAt places (omega arith), lent derivativeAt places (omega arith), lent answersAt answerRoom (omega arith)), c6 .pre .1 .1)))
+    (c6 .pre .0 .1 .small, (lent-lengths (c6 .args .figures .now) (c6 .pre .0 .0), c6 .pre .1 .1)))
     (λ c κs.
     let c4 = c .before .before .before .before in
     let c8 = c4 .before .before .before .before in
@@ -52,7 +50,7 @@ stepped-from-spec =
     rw (c2 .point-of .ensures)
     (record {
       sized = record { some = c12 .pre .0 .1 .some; small = c12 .pre .0 .1 .small; square = omega (arith, c5 .jacobian-into .kept, c12 .pre .1 .1) };
-      room = lent-length (c12 .args .figures .now) (c12 .pre .0 .0) answersAt answerRoom (omega arith);
+      room = lent-lengths (c12 .args .figures .now) (c12 .pre .0 .0) .2;
       early = c12 .pre .0 .1 .small;
     }))
     (λ c. search needs)
@@ -61,4 +59,6 @@ stepped-from-spec =
     let c6 = c3 .before .before .before in
     let c10 = c6 .before .before .before .before in
     let c13 = c10 .before .before .before in
-    rw (← (c3 .point-of .ensures), ← (state-slice (c13 .args .k) _ (c13 .pre .0 .0)), ← (derivative-slice (c13 .args .k) _ (c13 .pre .0 .0)), ← (answers-slice (c13 .args .k) _ (c13 .pre .0 .0)), ← (c6 .jacobian-into .ensures)) (c .perform-step .ensures)))
+    let k = c13 .args .k in
+    let e = c13 .pre .0 .0 in
+    rw (← (c3 .point-of .ensures), ← (state-slice k _ e), ← (derivative-slice k _ e), ← (answers-slice k _ e), ← (c6 .jacobian-into .ensures)) (c .perform-step .ensures)))
