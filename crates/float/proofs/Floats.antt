@@ -12,14 +12,7 @@ use lib.Count.{trailingZeros}
 use lib.Ieee.{Float, nan, inf, fin, binary64, lt, eq, ne, neg, div, isNan, fits, ofBits, ofFields, odd, up, down, level, toBits, size, span, climb}
 use borrow.Author.Tests.{ltb-true, ltb-false, eqb-true, eq-eqb, ne-eqb}
 use Rattle.loops.proofs.Bools.{both-true}
-use Rattle.float.specs.Arith.{_⊘_, zero+, one, abs, larger, finite, plusZero}
-
-pub between : (x : Float) → (lt (inf true) x && lt x (inf false)) ≡ finite x
-unfolding lt finite
-between nan = refl
-between (inf true) = refl
-between (inf false) = refl
-between (fin s m e) = refl
+use Rattle.float.specs.Arith.{_⊘_, zero+, one, abs, larger, plusZero}
 
 not-level : (m : ℕ) (e : ℤ) → eqb (suc m * up e * 1) (0 * down e) ≡ false
 not-level m e = ne-eqb (suc m * up e * 1) (0 * down e) (λ h. omega (arith, h, mul-pos {m = suc m} {n = up e} (omega arith) (up-pos e)))
@@ -49,7 +42,7 @@ abs-neg (inf false) h = absurd (false≢true h)
 abs-neg (fin true m e) h = refl
 abs-neg (fin false m e) h = absurd (omega (arith, ltb-true (m * up e * 1) (0 * down e) h))
 
-zero-exponent : (e : ℤ) → up e * down e ≡ 1 → e ≡ pos 0
+pub zero-exponent : (e : ℤ) → up e * down e ≡ 1 → e ≡ pos 0
 zero-exponent (pos zero) h = refl
 zero-exponent (pos (suc k)) h = absurd (omega (arith, pow-suc 2 k, pow-pos k))
 zero-exponent (negsuc k) h = absurd (omega (arith, pow-suc 2 k, pow-pos k))

@@ -1,5 +1,6 @@
 pub mod Signs
 pub mod Floats
+pub mod Marks
 pub mod Sums
 pub mod Round
 pub mod Mag
@@ -16,3 +17,4 @@ pub mod Roots
 pub mod RootExamples
 pub mod Order
 pub mod Plus
+pub mod Same

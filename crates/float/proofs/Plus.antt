@@ -60,7 +60,7 @@ units-plus q k = go (ltb (q * 2 ^ k) (2 ^ (low binary64 + suc (emax binary64))))
     go true = odd-plus (suc (prec binary64)) q k (low binary64)
     go false = unfold plus in tt
 
-round-plus : (a c : ℕ) → T (plus (round binary64 false a c))
+pub round-plus : (a c : ℕ) → T (plus (round binary64 false a c))
 unfolding round
 round-plus a c =
     let n = a * 2 ^ low binary64 in

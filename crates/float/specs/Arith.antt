@@ -50,6 +50,10 @@ finite nan = false
 finite (inf s) = false
 finite (fin s m e) = true
 
+-- what a number less itself is, by whether it is finite: +0.0 or a NaN
+unfoldable pub mark : Bool → Float
+mark b = cond b zero+ nan
+
 -- +0.0 and no other: not -0.0, not a NaN
 unfoldable pub plusZero : Float → Bool
 plusZero nan = false

@@ -15,8 +15,7 @@ pub const EPSILON: f64 = 2.220446049250313e-16;
 pub fn finite(x: f64) -> bool
     ensures { λ r. ⌜ r ≡ finite x ⌝ }
 {
-    let top = 1.0 / 0.0;
-    (-top < x) & (x < top)
+    x - x == 0.0
 }
 
 // Whether x is +0.0: first by value, so that a NaN's bits are never looked at.

@@ -14,8 +14,8 @@ use Rattle.loops.proofs.Loops.{length-tab, tab-at, stores-step0}
 use Rattle.loops.proofs.Stores.{tab-ext, run-all, ahead}
 use Rattle.float.specs.Arith.{_⊕_, _⊗_, _⊘_, zero+, one, epsilon, abs, larger, most}
 use Rattle.float.proofs.Sums.{most-step, most-end, most-ext}
-use Rattle.matrix.specs.Matrix.{identity, matMul, divAll, addAll, maxAbs, nextTerm, small, series, taylor, scaled, power, squared}
-use Rattle.matrix.specs.Calls.{Added, Turned, Summed}
+use Rattle.matrix.specs.Matrix.{identity, matMul, divAll, addAll, maxAbs, nextTerm, small, series, taylor, scaled, squared}
+use Rattle.matrix.specs.Calls.{Added, Turned, Summed, Ready, Worked}
 use Rattle.matrix.proofs.Products.{even-end, odd-end}
 
 -- ---- a term divided and added
@@ -118,15 +118,16 @@ pub left-two : (a : List Float) (n : ℕ) (t r : List Float) (k : ℕ) → Left 
 left-two a n t r k e = let s : k + 1 + 1 ≡ k + 2 = omega arith in rw s at e
 
 -- ---- the five steps together
-pub scaled-is : (m a : List Float) (p : Float) (c : ℕ) → a ≡ divAll m p → p ≡ power c → a ≡ scaled m c
-unfolding scaled
-scaled-is m a p c e h = rw h at e
+module _ {w : ℕ} {m a o : List Float} {n c : ℕ} {d : Float} (r : Ready w m o n c d) (e : a ≡ divAll m d) where
+  pub scaled-is : a ≡ scaled m c
+  unfolding scaled
+  scaled-is = rw (r .divides) at e
 
-pub few-terms : (m a : List Float) (c n : ℕ) → a ≡ scaled m c → taylor (scaled m c) n .terms ≤ 15 → taylor a n .terms ≤ 15
-few-terms m a c n e h = rw e h
+  pub few-terms : taylor a n .terms ≤ 15
+  few-terms = rw scaled-is (r .stops)
 
-pub exp-even : (m a x y : List Float) (c n t : ℕ) → a ≡ scaled m c → Summed a n x t → c % 2 ≡ 0 → y ≡ squared (2 * (c / 2)) x n → y ≡ squared c (taylor (scaled m c) n .sum) n
-exp-even m a x y c n t e u h d = rw (← e, ← u .whole) (even-end c n x y h d)
+pub exp-even : (m a x y : List Float) (c n t : ℕ) → a ≡ scaled m c → Summed a n x t → c % 2 ≡ 0 → y ≡ squared (2 * (c / 2)) x n → Worked m n c a y
+exp-even m a x y c n t e u h d = record { divided = e; output = rw (← e, ← u .whole) (even-end c n x y h d) }
 
-pub exp-odd : (m a x y z : List Float) (c n t : ℕ) → a ≡ scaled m c → Summed a n x t → (c % 2 ≡ 0 → ⊥) → y ≡ matMul x x n → z ≡ squared (2 * (c / 2)) y n → z ≡ squared c (taylor (scaled m c) n .sum) n
-exp-odd m a x y z c n t e u h v d = rw (← e, ← u .whole) (odd-end c n x y z h v d)
+pub exp-odd : (m a x y z : List Float) (c n t : ℕ) → a ≡ scaled m c → Summed a n x t → (c % 2 ≡ 0 → ⊥) → y ≡ matMul x x n → z ≡ squared (2 * (c / 2)) y n → Worked m n c a z
+exp-odd m a x y z c n t e u h v d = record { divided = e; output = rw (← e, ← u .whole) (odd-end c n x y z h v d) }

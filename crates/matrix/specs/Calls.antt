@@ -4,9 +4,10 @@ use mathlib.Core.Path.{_≡_}
 use mathlib.Core.Bool.{Bool, cond}
 use mathlib.Core.List.{List}
 use lib.Ieee.{Float}
+use lib.ListN.{length}
 use Rattle.loops.specs.Loop.{iter, stores}
 use Rattle.float.specs.Arith.{_⊕_, _⊗_, zero+}
-use Rattle.matrix.specs.Matrix.{at, divAll, addAll, norm, admitted, squarings, power, nextTerm, small, taylor, exponential}
+use Rattle.matrix.specs.Matrix.{at, divAll, addAll, norm, admitted, squarings, power, nextTerm, small, taylor, scaled, squared, exponential}
 
 -- the first k products of row i and column j, summed from +0.0
 unfoldable pub products : ℕ → List Float → List Float → ℕ → ℕ → ℕ → Float
@@ -46,7 +47,21 @@ pub record Summed (a : List Float) (n : ℕ) (sum : List Float) (terms : ℕ) : 
   pub whole : sum ≡ taylor a n .sum
   pub number : terms ≡ taylor a n .terms
 
--- matrix_exp: whether m is admitted; the output is then the exponential, and otherwise as it was
-pub record Filled (m : List Float) (n : ℕ) (before after : List Float) (r : Bool) : Type 0 where
+-- what is raised in a class of room: a matrix of size n, at most w, room for the output, and 2 to the number of squarings, by which the series stops in time
+pub record Ready (w : ℕ) (m out : List Float) (n count : ℕ) (divisor : Float) : Type 0 where
+  pub size : n ≤ w
+  pub places : length m ≡ n * n
+  pub room : length out ≡ n * n
+  pub divides : divisor ≡ power count
+  pub stops : taylor (scaled m count) n .terms ≤ 15
+
+-- m divided is left in its place, and its series squared in the output
+pub record Worked (m : List Float) (n count : ℕ) (m' after : List Float) : Type 0 where
+  pub divided : m' ≡ scaled m count
+  pub output : after ≡ squared count (taylor (scaled m count) n .sum) n
+
+-- matrix_exp: whether m is admitted; m is then left divided, and the output is the exponential; otherwise both are as they were
+pub record Filled (m : List Float) (n : ℕ) (m' before after : List Float) (r : Bool) : Type 0 where
   pub test : r ≡ admitted m n
+  pub work : m' ≡ cond (admitted m n) (scaled m (squarings (norm m n))) m
   pub output : after ≡ cond (admitted m n) (exponential m n .entries) before

@@ -7,9 +7,9 @@ ghost use lib.Ieee.{le, isNan};
 ghost use lib.ListN.{length};
 ghost use Rattle.loops.specs.Loop.{stores, _!_};
 ghost use Rattle.float.specs.Arith.{_⊕_, _⊗_, zero+, limit, abs, larger, sumOf};
-ghost use Rattle.matrix.specs.Matrix.{at, identity, matMul, divAll, rowSum, norm, power, scaled, taylor, squared};
+ghost use Rattle.matrix.specs.Matrix.{at, identity, matMul, divAll, rowSum, taylor, squared};
 ghost use Rattle.matrix.specs.Vector.{matVec};
-ghost use Rattle.matrix.specs.Calls.{products, Started, Normed, Scaled, Added, Turned, Summed, Filled};
+ghost use Rattle.matrix.specs.Calls.{products, Started, Normed, Scaled, Added, Turned, Summed, Ready, Worked, Filled};
 
 // 2 ^ 31, the largest row sum that is exponentiated.
 pub const LIMIT: f64 = 2147483648.0;
@@ -230,13 +230,12 @@ fn scale_of(norm: f64) -> Scale
 
 // ---- steps 3 and 4: the series
 
-// out = m with every entry divided.
-fn div_into(m: &[f64], out: &mut [f64], d: f64)
-    requires { ⌜ length (now out) ≡ length (now m) ⌝ }
-    ensures { λ _. ⌜ now (out .exit) ≡ divAll (now (m .entry)) d ⌝ }
+// Divides every entry.
+fn div_all(m: &mut [f64], d: f64)
+    ensures { λ _. ⌜ now (m .exit) ≡ divAll (now (m .entry)) d ⌝ }
 {
     for p in 0..m.len() {
-        out[p] = m[p] / d;
+        m[p] = m[p] / d;
     }
 }
 
@@ -316,46 +315,40 @@ fn square(m: &mut [f64], other: &mut [f64], pairs: u32, n: usize)
 
 // The exponential over lent room. The sum is built where an even number of squarings ends in out.
 fn exp_into(
-    m: &[f64],
+    m: &mut [f64],
     out: &mut [f64],
-    a: &mut [f64],
     even: &mut [f64],
     odd: &mut [f64],
     count: u32,
     divisor: f64,
     n: usize,
 )
-    requires { ⌜ (n ≤ 20) × (divisor ≡ power count) ⌝ }
-    requires { ⌜ (length (now m) ≡ n * n) × (length (now out) ≡ n * n) × (length (now a) ≡ n * n) × (length (now even) ≡ n * n) × (length (now odd) ≡ n * n) ⌝ }
-    requires { ⌜ taylor (scaled (now m) count) n .terms ≤ 15 ⌝ }
-    ensures { λ _. ⌜ now (out .exit) ≡ squared count (taylor (scaled (now (m .entry)) count) n .sum) n ⌝ }
+    requires { ⌜ Ready 20 (now m) (now out) n count divisor ⌝ }
+    requires { ⌜ (length (now even) ≡ n * n) × (length (now odd) ≡ n * n) ⌝ }
+    ensures { λ _. ⌜ Worked (now (m .entry)) n count (now (m .exit)) (now (out .exit)) ⌝ }
 {
-    div_into(m, a, divisor);
+    div_all(m, divisor);
     if count % 2 == 0 {
-        taylor(a, out, even, odd, n);
+        taylor(m, out, even, odd, n);
         square(out, odd, count / 2, n);
     } else {
-        taylor(a, odd, even, out, n);
+        taylor(m, odd, even, out, n);
         mat_mul(odd, odd, out, n);
         square(out, odd, count / 2, n);
     }
 }
 
 // Room for sizes up to 4.
-fn exp_small(m: &[f64], out: &mut [f64], count: u32, divisor: f64, n: usize)
-    requires { ⌜ (n ≤ 4) × (divisor ≡ power count) ⌝ }
-    requires { ⌜ (length (now m) ≡ n * n) × (length (now out) ≡ n * n) ⌝ }
-    requires { ⌜ taylor (scaled (now m) count) n .terms ≤ 15 ⌝ }
-    ensures { λ _. ⌜ now (out .exit) ≡ squared count (taylor (scaled (now (m .entry)) count) n .sum) n ⌝ }
+fn exp_small(m: &mut [f64], out: &mut [f64], count: u32, divisor: f64, n: usize)
+    requires { ⌜ Ready 4 (now m) (now out) n count divisor ⌝ }
+    ensures { λ _. ⌜ Worked (now (m .entry)) n count (now (m .exit)) (now (out .exit)) ⌝ }
 {
     let size = n * n;
-    let mut a = [0.0; 16];
     let mut even = [0.0; 16];
     let mut odd = [0.0; 16];
     exp_into(
         m,
         out,
-        &mut a[..size],
         &mut even[..size],
         &mut odd[..size],
         count,
@@ -365,20 +358,35 @@ fn exp_small(m: &[f64], out: &mut [f64], count: u32, divisor: f64, n: usize)
 }
 
 // Room for sizes up to 8.
-fn exp_medium(m: &[f64], out: &mut [f64], count: u32, divisor: f64, n: usize)
-    requires { ⌜ (n ≤ 8) × (divisor ≡ power count) ⌝ }
-    requires { ⌜ (length (now m) ≡ n * n) × (length (now out) ≡ n * n) ⌝ }
-    requires { ⌜ taylor (scaled (now m) count) n .terms ≤ 15 ⌝ }
-    ensures { λ _. ⌜ now (out .exit) ≡ squared count (taylor (scaled (now (m .entry)) count) n .sum) n ⌝ }
+fn exp_medium(m: &mut [f64], out: &mut [f64], count: u32, divisor: f64, n: usize)
+    requires { ⌜ Ready 8 (now m) (now out) n count divisor ⌝ }
+    ensures { λ _. ⌜ Worked (now (m .entry)) n count (now (m .exit)) (now (out .exit)) ⌝ }
 {
     let size = n * n;
-    let mut a = [0.0; 64];
     let mut even = [0.0; 64];
     let mut odd = [0.0; 64];
     exp_into(
         m,
         out,
-        &mut a[..size],
+        &mut even[..size],
+        &mut odd[..size],
+        count,
+        divisor,
+        n,
+    );
+}
+
+// Room for sizes up to 12.
+fn exp_wide(m: &mut [f64], out: &mut [f64], count: u32, divisor: f64, n: usize)
+    requires { ⌜ Ready 12 (now m) (now out) n count divisor ⌝ }
+    ensures { λ _. ⌜ Worked (now (m .entry)) n count (now (m .exit)) (now (out .exit)) ⌝ }
+{
+    let size = n * n;
+    let mut even = [0.0; 144];
+    let mut odd = [0.0; 144];
+    exp_into(
+        m,
+        out,
         &mut even[..size],
         &mut odd[..size],
         count,
@@ -388,20 +396,16 @@ fn exp_medium(m: &[f64], out: &mut [f64], count: u32, divisor: f64, n: usize)
 }
 
 // Room for sizes up to 20.
-fn exp_large(m: &[f64], out: &mut [f64], count: u32, divisor: f64, n: usize)
-    requires { ⌜ (n ≤ 20) × (divisor ≡ power count) ⌝ }
-    requires { ⌜ (length (now m) ≡ n * n) × (length (now out) ≡ n * n) ⌝ }
-    requires { ⌜ taylor (scaled (now m) count) n .terms ≤ 15 ⌝ }
-    ensures { λ _. ⌜ now (out .exit) ≡ squared count (taylor (scaled (now (m .entry)) count) n .sum) n ⌝ }
+fn exp_large(m: &mut [f64], out: &mut [f64], count: u32, divisor: f64, n: usize)
+    requires { ⌜ Ready 20 (now m) (now out) n count divisor ⌝ }
+    ensures { λ _. ⌜ Worked (now (m .entry)) n count (now (m .exit)) (now (out .exit)) ⌝ }
 {
     let size = n * n;
-    let mut a = [0.0; 400];
     let mut even = [0.0; 400];
     let mut odd = [0.0; 400];
     exp_into(
         m,
         out,
-        &mut a[..size],
         &mut even[..size],
         &mut odd[..size],
         count,
@@ -411,25 +415,29 @@ fn exp_large(m: &[f64], out: &mut [f64], count: u32, divisor: f64, n: usize)
 }
 
 // The exponential of m, into out, and true; or false, with out as it was, where a row sum is not
-// finite or is above 2^31.
-pub fn matrix_exp(m: &[f64], out: &mut [f64], n: usize) -> bool
+// finite or is above 2^31. m itself is divided; where it is refused, it is as it was.
+pub fn matrix_exp(m: &mut [f64], out: &mut [f64], n: usize) -> bool
     requires { ⌜ n ≤ 20 ⌝ }
     requires { ⌜ (length (now m) ≡ n * n) × (length (now out) ≡ n * n) ⌝ }
-    ensures { λ r. ⌜ Filled (now (m .entry)) n (now (out .entry)) (now (out .exit)) r ⌝ }
+    ensures { λ r. ⌜ Filled (now (m .entry)) n (now (m .exit)) (now (out .entry)) (now (out .exit)) r ⌝ }
 {
-    let norm = row_norm(m, n);
+    let norm = row_norm(&*m, n);
     if !norm.ok {
         return false;
     }
     let scale = scale_of(norm.value);
     if n <= 4 {
         exp_small(m, out, scale.count, scale.divisor, n);
-    } else {
-        if n <= 8 {
-            exp_medium(m, out, scale.count, scale.divisor, n);
-        } else {
-            exp_large(m, out, scale.count, scale.divisor, n);
-        }
+        return true;
     }
+    if n <= 8 {
+        exp_medium(m, out, scale.count, scale.divisor, n);
+        return true;
+    }
+    if n <= 12 {
+        exp_wide(m, out, scale.count, scale.divisor, n);
+        return true;
+    }
+    exp_large(m, out, scale.count, scale.divisor, n);
     true
 }

@@ -1,4 +1,5 @@
 pub mod Laws
+pub mod Augmented
 pub mod Lines
 pub mod Requires
 pub mod Shape

@@ -3,10 +3,10 @@
 // `lawson_etd`, `exp4_epirk` and `rosenbrock`, and perform_step in `schemes`.
 ghost use mathlib.Core.Path.{_≡_};
 ghost use mathlib.Core.List.{[], _∷_};
-ghost use Prim.Native.Nat.{_-_, _*_, _≤_, _<_};
-ghost use lib.ListN.{length};
-ghost use Rattle.float.specs.Arith.{_⊗_};
-ghost use Rattle.loops.specs.Loop.{mat};
+ghost use Prim.Native.Nat.{_+_, _-_, _*_, _≤_, _<_};
+ghost use lib.ListN.{length, replicate};
+ghost use Rattle.float.specs.Arith.{_⊗_, zero+, abs, sumOf};
+ghost use Rattle.loops.specs.Loop.{mat, stores};
 ghost use Rattle.matrix.specs.Matrix.{at};
 ghost use Rattle.matrix.specs.Vector.{vec, matVec};
 ghost use Rattle.methods.specs.Numbers.{num, minus};
@@ -15,7 +15,7 @@ ghost use Rattle.evaluation.specs.Sizes.{places, answersKept, answerRoom};
 ghost use Rattle.methods.specs.Tally.{tested, clean, unadmitted, joined};
 ghost use Rattle.methods.specs.Phi.{over, more, nothing, augmentedEntry, phiAction, phiTerm, expAction};
 ghost use Rattle.methods.specs.Pass.{answer, asks, ends, under, stand};
-ghost use Rattle.methods.specs.Parts.{phiInto, mayAsk, mayEnd};
+ghost use Rattle.methods.specs.Parts.{inputRow, rowsTo, chained, phiInto, admittedSum, inputAdmitted, ifWanted, mayAsk, mayEnd};
 
 // The places of a vector.
 pub const PLACES: usize = evaluation::PLACES;
@@ -37,8 +37,8 @@ pub struct Tally {
 
 // A vector that exponentials were worked out for, with what they report; +0.0 where one was not admitted.
 pub struct Action {
-    pub tally: Tally,
     pub v: Vector,
+    pub tally: Tally,
 }
 
 // What a scheme starts from.
@@ -48,8 +48,8 @@ pub struct Point {
     pub step: f64,
     pub state: Vector,
     pub f0: Vector,
-    pub held: bool,
     pub previous: Vector,
+    pub held: bool,
 }
 
 // Whether a pass asks, at which time, or has ended.
@@ -61,19 +61,19 @@ pub enum Kind {
 // Where a scheme's pass stands: the state that it asks about, or its candidate with the error vector.
 // The tally: every test on the way held.
 pub struct Out {
-    pub tally: Tally,
-    pub kind: Kind,
     pub x: Vector,
     pub e: Vector,
+    pub kind: Kind,
+    pub tally: Tally,
 }
 
 // The same of a whole step, with f0 - J u.
 pub struct StepResult {
-    pub ok: bool,
-    pub kind: Kind,
     pub state: Vector,
     pub error: Vector,
     pub nonlinear: Vector,
+    pub kind: Kind,
+    pub ok: bool,
 }
 
 // ---- vectors
@@ -171,37 +171,58 @@ pub fn joined(x: Tally, y: Tally) -> Tally
 
 // ---- the actions of exponentials
 
-// The entry in row i and column j of the augmented matrix.
-fn augmented_entry(a: &[f64], scale_a: f64, input: Vector, n: usize, i: usize, j: usize) -> f64
+// Row i of scale_a times a, with the input behind it, at the place `to`.
+fn augmented_row(
+    a: &[f64],
+    scale_a: f64,
+    input: f64,
+    i: usize,
+    n: usize,
+    out: &mut [f64],
+    to: usize,
+)
     requires { ⌜ Sized n (now a) ⌝ }
-    requires { ⌜ i < 20 ⌝ }
-    ensures { λ r. ⌜ r ≡ augmentedEntry n (now (a .entry)) «scale_a» input i j ⌝ }
+    requires { ⌜ (i < n) × (to + n < length (now out)) ⌝ }
+    ensures { λ _. ⌜ now (out .exit) ≡ stores (λ j x. inputRow n (now (a .entry)) «scale_a» input i j) to (n + 1) (now (out .entry)) ⌝ }
 {
-    if i < n {
-        if j < n {
-            scale_a * a[i * n + j]
-        } else if j == n {
-            input[i]
-        } else {
-            0.0
-        }
-    } else if j == i + 1 {
-        1.0
-    } else {
-        0.0
+    let from = i * n;
+    for j in 0..n {
+        out[to + j] = scale_a * a[from + j];
+    }
+    out[to + n] = input;
+}
+
+// The rows of scale_a times a, with the input column.
+fn augmented_rows(a: &[f64], scale_a: f64, input: Vector, n: usize, out: &mut [f64], size: usize)
+    requires { ⌜ Sized n (now a) ⌝ }
+    requires { ⌜ (n < size) × (size ≤ 20) ⌝ }
+    requires { ⌜ now out ≡ rowsTo 0 size (augmentedEntry n (now a) «scale_a» input) ⌝ }
+    ensures { λ _. ⌜ now (out .exit) ≡ rowsTo n size (augmentedEntry n (now (a .entry)) «scale_a» input) ⌝ }
+{
+    for i in 0..n {
+        augmented_row(a, scale_a, input[i], i, n, out, i * size);
     }
 }
 
-// scale_a times a, with the input column, and ones above the diagonal behind it.
+// Ones above the diagonal, behind the input column.
+fn chain(n: usize, out: &mut [f64], size: usize)
+    requires { ⌜ (n < size) × (size ≤ 20) × (length (now out) ≡ size * size) ⌝ }
+    ensures { λ _. ⌜ now (out .exit) ≡ chained n size (size - 1 - n) (now (out .entry)) ⌝ }
+{
+    for i in n..size - 1 {
+        out[i * size + i + 1] = 1.0;
+    }
+}
+
+// scale_a times a, with the input column, and ones above the diagonal behind it, over +0.0.
 fn augment(a: &[f64], scale_a: f64, input: Vector, n: usize, out: &mut [f64], size: usize)
     requires { ⌜ Sized n (now a) ⌝ }
-    requires { ⌜ (0 < size) × (size ≤ 20) ⌝ }
-    requires { ⌜ length (now out) ≡ size * size ⌝ }
+    requires { ⌜ (n < size) × (size ≤ 20) ⌝ }
+    requires { ⌜ now out ≡ replicate (size * size) zero+ ⌝ }
     ensures { λ _. ⌜ now (out .exit) ≡ mat size (augmentedEntry n (now (a .entry)) «scale_a» input) ⌝ }
 {
-    for p in 0..out.len() {
-        out[p] = augmented_entry(a, scale_a, input, n, p / size, p % size);
-    }
+    augmented_rows(a, scale_a, input, n, out, size);
+    chain(n, out, size);
 }
 
 // The first n entries of a column.
@@ -217,7 +238,7 @@ fn column_of(e: &[f64], size: usize, column: usize, n: usize) -> Vector
     out
 }
 
-// A column of the exponential of the augmented matrix of this size, in two matrices that are lent.
+// A column of the exponential of the augmented matrix of this size, in two matrices that are lent, the first of +0.0.
 fn phi_into(
     a: &[f64],
     scale_a: f64,
@@ -230,7 +251,7 @@ fn phi_into(
 ) -> Action
     requires { ⌜ Sized n (now a) ⌝ }
     requires { ⌜ (n < size) × (column < size) × (size ≤ 20) ⌝ }
-    requires { ⌜ length (now m) ≡ size * size ⌝ }
+    requires { ⌜ now m ≡ replicate (size * size) zero+ ⌝ }
     requires { ⌜ length (now e) ≡ size * size ⌝ }
     ensures { λ r. ⌜ r ≡ phiInto n (now (a .entry)) «scale_a» input size column ⌝ }
 {
@@ -248,6 +269,58 @@ fn phi_into(
     }
 }
 
+// Room for sizes up to 4.
+fn phi_small(a: &[f64], scale_a: f64, input: Vector, n: usize, size: usize) -> Action
+    requires { ⌜ Sized n (now a) ⌝ }
+    requires { ⌜ (n < size) × (size ≤ 4) ⌝ }
+    ensures { λ r. ⌜ r ≡ phiInto n (now (a .entry)) «scale_a» input size (size - 1) ⌝ }
+{
+    let last = size - 1;
+    let sq = size * size;
+    let mut m = [0.0; 16];
+    let mut e = [0.0; 16];
+    phi_into(a, scale_a, input, n, &mut m[..sq], &mut e[..sq], size, last)
+}
+
+// Room for sizes up to 8.
+fn phi_medium(a: &[f64], scale_a: f64, input: Vector, n: usize, size: usize) -> Action
+    requires { ⌜ Sized n (now a) ⌝ }
+    requires { ⌜ (n < size) × (size ≤ 8) ⌝ }
+    ensures { λ r. ⌜ r ≡ phiInto n (now (a .entry)) «scale_a» input size (size - 1) ⌝ }
+{
+    let last = size - 1;
+    let sq = size * size;
+    let mut m = [0.0; 64];
+    let mut e = [0.0; 64];
+    phi_into(a, scale_a, input, n, &mut m[..sq], &mut e[..sq], size, last)
+}
+
+// Room for sizes up to 12.
+fn phi_wide(a: &[f64], scale_a: f64, input: Vector, n: usize, size: usize) -> Action
+    requires { ⌜ Sized n (now a) ⌝ }
+    requires { ⌜ (n < size) × (size ≤ 12) ⌝ }
+    ensures { λ r. ⌜ r ≡ phiInto n (now (a .entry)) «scale_a» input size (size - 1) ⌝ }
+{
+    let last = size - 1;
+    let sq = size * size;
+    let mut m = [0.0; 144];
+    let mut e = [0.0; 144];
+    phi_into(a, scale_a, input, n, &mut m[..sq], &mut e[..sq], size, last)
+}
+
+// Room for sizes up to 20.
+fn phi_large(a: &[f64], scale_a: f64, input: Vector, n: usize, size: usize) -> Action
+    requires { ⌜ Sized n (now a) ⌝ }
+    requires { ⌜ (n < size) × (size ≤ 20) ⌝ }
+    ensures { λ r. ⌜ r ≡ phiInto n (now (a .entry)) «scale_a» input size (size - 1) ⌝ }
+{
+    let last = size - 1;
+    let sq = size * size;
+    let mut m = [0.0; 400];
+    let mut e = [0.0; 400];
+    phi_into(a, scale_a, input, n, &mut m[..sq], &mut e[..sq], size, last)
+}
+
 // The first n entries of the last column of the augmented matrix's exponential. The room that is lent
 // is no larger than its size class.
 pub fn phi_action(a: &[f64], scale_a: f64, order: usize, input: Vector, n: usize) -> Action
@@ -255,27 +328,87 @@ pub fn phi_action(a: &[f64], scale_a: f64, order: usize, input: Vector, n: usize
     requires { ⌜ (1 ≤ order) × (order ≤ 4) ⌝ }
     ensures { λ r. ⌜ r ≡ phiAction n (now (a .entry)) «scale_a» order input ⌝ }
 {
-    let last = n + order - 1;
-    let size = last + 1;
-    let sq = size * size;
-    if sq <= 16 {
-        let mut m = [0.0; 16];
-        let mut e = [0.0; 16];
-        return phi_into(a, scale_a, input, n, &mut m[..sq], &mut e[..sq], size, last);
+    let size = n + order;
+    if size <= 4 {
+        return phi_small(a, scale_a, input, n, size);
     }
-    if sq <= 64 {
-        let mut m = [0.0; 64];
-        let mut e = [0.0; 64];
-        return phi_into(a, scale_a, input, n, &mut m[..sq], &mut e[..sq], size, last);
+    if size <= 8 {
+        return phi_medium(a, scale_a, input, n, size);
     }
-    if sq <= 144 {
-        let mut m = [0.0; 144];
-        let mut e = [0.0; 144];
-        return phi_into(a, scale_a, input, n, &mut m[..sq], &mut e[..sq], size, last);
+    if size <= 12 {
+        return phi_wide(a, scale_a, input, n, size);
     }
-    let mut m = [0.0; 400];
-    let mut e = [0.0; 400];
-    phi_into(a, scale_a, input, n, &mut m[..sq], &mut e[..sq], size, last)
+    phi_large(a, scale_a, input, n, size)
+}
+
+// Whether the sum of row i of scale_a times a, with the input behind it, is admitted.
+fn admitted_row(a: &[f64], scale_a: f64, input: f64, i: usize, n: usize) -> bool
+    requires { ⌜ Sized n (now a) ⌝ }
+    requires { ⌜ i < n ⌝ }
+    ensures { λ r. ⌜ r ≡ admittedSum (sumOf (n + 1) (λ j. abs (inputRow n (now (a .entry)) «scale_a» input i j))) ⌝ }
+{
+    let row = i * n;
+    let mut sum = float::abs(scale_a * a[row]);
+    for j in 1..n {
+        sum = sum + float::abs(scale_a * a[row + j]);
+    }
+    let sum = sum + float::abs(input);
+    float::finite(sum) & (sum <= matrix::LIMIT)
+}
+
+// Whether the row sums of the augmented matrix are admitted: those of the rows below are 1 and +0.0.
+fn phi_tally(a: &[f64], scale_a: f64, input: Vector, n: usize) -> Tally
+    requires { ⌜ Sized n (now a) ⌝ }
+    ensures { λ r. ⌜ r ≡ tested (inputAdmitted n (now (a .entry)) «scale_a» input) ⌝ }
+{
+    let mut ok = true;
+    for i in 0..n {
+        ok = ok & admitted_row(a, scale_a, input[i], i, n);
+    }
+    tested(ok)
+}
+
+// The phi action where it is wanted; otherwise what it reports, alone.
+pub fn phi_if(
+    wanted: bool,
+    a: &[f64],
+    scale_a: f64,
+    order: usize,
+    input: Vector,
+    n: usize,
+) -> Action
+    requires { ⌜ Sized n (now a) ⌝ }
+    requires { ⌜ (1 ≤ order) × (order ≤ 4) ⌝ }
+    ensures { λ r. ⌜ r ≡ ifWanted wanted (phiAction n (now (a .entry)) «scale_a» order input) ⌝ }
+{
+    if wanted {
+        return phi_action(a, scale_a, order, input, n);
+    }
+    let report = phi_tally(a, scale_a, input, n);
+    Action {
+        v: [0.0; PLACES],
+        tally: report,
+    }
+}
+
+// The same of a phi term.
+pub fn phi_term_if(
+    wanted: bool,
+    a: &[f64],
+    scale_a: f64,
+    order: usize,
+    coefficient: f64,
+    input: Vector,
+    n: usize,
+) -> Action
+    requires { ⌜ Sized n (now a) ⌝ }
+    requires { ⌜ (1 ≤ order) × (order ≤ 4) ⌝ }
+    ensures { λ r. ⌜ r ≡ ifWanted wanted (phiTerm n (now (a .entry)) «scale_a» order coefficient input) ⌝ }
+{
+    if wanted {
+        return phi_term(a, scale_a, order, coefficient, input, n);
+    }
+    phi_if(false, a, scale_a, order, input, n)
 }
 
 pub fn phi_term(
@@ -331,25 +464,54 @@ fn exp_into(
     }
 }
 
+// Room for sizes up to 4.
+fn exp_small(a: &[f64], scale_a: f64, input: Vector, n: usize) -> Action
+    requires { ⌜ Sized n (now a) ⌝ }
+    requires { ⌜ n ≤ 4 ⌝ }
+    ensures { λ r. ⌜ r ≡ expAction n (now (a .entry)) «scale_a» input ⌝ }
+{
+    let sq = n * n;
+    let mut m = [0.0; 16];
+    let mut e = [0.0; 16];
+    exp_into(a, scale_a, input, n, &mut m[..sq], &mut e[..sq])
+}
+
+// Room for sizes up to 8.
+fn exp_medium(a: &[f64], scale_a: f64, input: Vector, n: usize) -> Action
+    requires { ⌜ Sized n (now a) ⌝ }
+    requires { ⌜ n ≤ 8 ⌝ }
+    ensures { λ r. ⌜ r ≡ expAction n (now (a .entry)) «scale_a» input ⌝ }
+{
+    let sq = n * n;
+    let mut m = [0.0; 64];
+    let mut e = [0.0; 64];
+    exp_into(a, scale_a, input, n, &mut m[..sq], &mut e[..sq])
+}
+
+// Room for sizes up to 16.
+fn exp_large(a: &[f64], scale_a: f64, input: Vector, n: usize) -> Action
+    requires { ⌜ Sized n (now a) ⌝ }
+    requires { ⌜ n ≤ 16 ⌝ }
+    ensures { λ r. ⌜ r ≡ expAction n (now (a .entry)) «scale_a» input ⌝ }
+{
+    let sq = n * n;
+    let mut m = [0.0; 256];
+    let mut e = [0.0; 256];
+    exp_into(a, scale_a, input, n, &mut m[..sq], &mut e[..sq])
+}
+
 // The exponential of scale_a times a, times the input.
 pub fn exp_action(a: &[f64], scale_a: f64, input: Vector, n: usize) -> Action
     requires { ⌜ Sized n (now a) ⌝ }
     ensures { λ r. ⌜ r ≡ expAction n (now (a .entry)) «scale_a» input ⌝ }
 {
-    let count = n * n;
-    if count <= 16 {
-        let mut m = [0.0; 16];
-        let mut e = [0.0; 16];
-        return exp_into(a, scale_a, input, n, &mut m[..count], &mut e[..count]);
+    if n <= 4 {
+        return exp_small(a, scale_a, input, n);
     }
-    if count <= 64 {
-        let mut m = [0.0; 64];
-        let mut e = [0.0; 64];
-        return exp_into(a, scale_a, input, n, &mut m[..count], &mut e[..count]);
+    if n <= 8 {
+        return exp_medium(a, scale_a, input, n);
     }
-    let mut m = [0.0; 256];
-    let mut e = [0.0; 256];
-    exp_into(a, scale_a, input, n, &mut m[..count], &mut e[..count])
+    exp_large(a, scale_a, input, n)
 }
 
 // ---- the parts of a pass

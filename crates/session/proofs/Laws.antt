@@ -186,9 +186,9 @@ show-kind old s o (Question t) x e g = refl
 show-kind old s o Done x e g = refl
 
 module _ (old s : Session) (o o' : List Float) (w : StepResult) (p : Progress) (v : reached w ≡ p) where
-  pub show-bad : (r : Told) → r ≡ refuse old 6 → w .ok ≡ false → o' ≡ cond (w .ok) (tab (length o) (λ i. w .state ! i)) o → outcome r o' ≡ shown old s o p
+  pub show-bad : w .ok ≡ false → o' ≡ cond (w .ok) (tab (length o) (λ i. w .state ! i)) o → outcome (refuse old 6) o' ≡ shown old s o p
   unfolding shown reached
-  show-bad r f e c = rw (← v, c, e, f)
+  show-bad e c = rw (← v, c, e)
 
   pub show-ok : (a : Answer) → w .ok ≡ true → length o ≡ s .n → o' ≡ cond (w .ok) (tab (length o) (λ i. w .state ! i)) o → a ≡ answerOf s (w .kind) (w .state) (w .error)
       → outcome (tell a s) o' ≡ shown old s o p

@@ -1369,7 +1369,10 @@ pub fn exponential(size: usize, m: &[f64], out: &mut [f64]) -> Answer
 {
     let k = exponential_fault(size, m, out.len());
     if k == 0 {
-        if matrix::matrix_exp(m, &mut *out, size) {
+        let mut a = [0.0; LARGEST * LARGEST];
+        let end = size * size;
+        figures::put(m, &mut a, 0);
+        if matrix::matrix_exp(&mut a[..end], &mut *out, size) {
             return Answer::Filled;
         }
         return Answer::Refused(6);

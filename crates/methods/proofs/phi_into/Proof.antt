@@ -1,34 +1,39 @@
 -- `methods::phi_into`: the matrix is admitted or not. Assumes nothing.
 use borrow.Author.Needs.{needs}
+use mathlib.Core.Path.{ap, _∙_}
+use lib.ListN.{length}
+use Rattle.loops.proofs.Places.{length-mat}
 use Rattle.methods.proofs.Laws.{phi-ok, phi-bad}
 use Rattle.methods.proofs.phi_into.Statement.{statement}
 use Rattle.methods.proofs.phi_into.Tie as tie
-
-returns : tie.Need-returns
-returns c =
-    let at-if1 = c .before .before in
-    let at-matrix-exp = at-if1 .before .before .before in
-    let at-m = at-matrix-exp .before .before .before .before in
-    let at-augment = at-m .before in
-    phi-ok _ _ _ _ _ _ _ _ _ _ _ (at-augment .augment .ensures) (at-matrix-exp .matrix-exp .ensures) (at-if1 .if1 .taken) (c .column-of .ensures)
-
-returns-2 : tie.Need-returns-2
-returns-2 c =
-    let at-matrix-exp = c .before .before .before in
-    let at-m = at-matrix-exp .before .before .before .before in
-    let at-augment = at-m .before in
-    phi-bad _ _ _ _ _ _ _ _ _ _ (at-augment .augment .ensures) (at-matrix-exp .matrix-exp .ensures) (c .if1 .left)
 
 pub phi-into-spec : {M : Type 1} → statement M
 phi-into-spec =
     tie.close
     (tie.spec
+    (λ c κs.
+    let c4 = c .before .before .before .before in
+    (c4 .pre .0, ((c4 .pre .1 .0 .0, c4 .pre .1 .0 .2), c4 .pre .1 .1 .0)))
+    (λ c κs.
+    let c4 = c .before .before .before .before in
+    let c8 = c4 .before .before .before .before in
+    let c9 = c8 .before in
+    (c9 .pre .1 .0 .2, (ap length (c4 .augment .ensures) ∙ length-mat _ _, c9 .pre .1 .1 .1)))
     (λ c κs. search needs)
-    (λ c κs. search needs)
-    (λ c κs. search needs)
     (λ c. search needs)
     (λ c. search needs)
-    returns
+    (λ c.
+    let c2 = c .before .before in
+    let c6 = c2 .before .before .before .before in
+    let c7 = c6 .before in
+    let c11 = c7 .before .before .before .before in
+    let c12 = c11 .before in
+    phi-ok _ _ _ _ _ _ _ _ _ _ _ _ (c12 .augment .ensures) (c7 .matrix-exp .ensures) (c2 .if1 .taken) (c .column-of .ensures))
     (λ c. search needs)
     (λ c. search needs)
-    returns-2)
+    (λ c.
+    let c4 = c .before .before .before .before in
+    let c5 = c4 .before in
+    let c9 = c5 .before .before .before .before in
+    let c10 = c9 .before in
+    phi-bad _ _ _ _ _ _ _ _ _ _ _ (c10 .augment .ensures) (c5 .matrix-exp .ensures) (c .if1 .left)))
