@@ -15,7 +15,7 @@ ghost use Rattle.evaluation.specs.Sizes.{places, answersKept, answerRoom};
 ghost use Rattle.methods.specs.Tally.{tested, clean, unadmitted, joined};
 ghost use Rattle.methods.specs.Phi.{over, more, nothing, augmentedEntry, phiAction, phiTerm, expAction};
 ghost use Rattle.methods.specs.Pass.{answer, asks, ends, under, stand};
-ghost use Rattle.methods.specs.Parts.{phiInto, mayAsk, mayEnd};
+ghost use Rattle.methods.specs.Parts.{phiInto, ifWanted, mayAsk, mayEnd};
 
 // The places of a vector.
 pub const PLACES: usize = evaluation::PLACES;
@@ -37,8 +37,8 @@ pub struct Tally {
 
 // A vector that exponentials were worked out for, with what they report; +0.0 where one was not admitted.
 pub struct Action {
-    pub tally: Tally,
     pub v: Vector,
+    pub tally: Tally,
 }
 
 // What a scheme starts from.
@@ -48,8 +48,8 @@ pub struct Point {
     pub step: f64,
     pub state: Vector,
     pub f0: Vector,
-    pub held: bool,
     pub previous: Vector,
+    pub held: bool,
 }
 
 // Whether a pass asks, at which time, or has ended.
@@ -61,19 +61,19 @@ pub enum Kind {
 // Where a scheme's pass stands: the state that it asks about, or its candidate with the error vector.
 // The tally: every test on the way held.
 pub struct Out {
-    pub tally: Tally,
-    pub kind: Kind,
     pub x: Vector,
     pub e: Vector,
+    pub kind: Kind,
+    pub tally: Tally,
 }
 
 // The same of a whole step, with f0 - J u.
 pub struct StepResult {
-    pub ok: bool,
-    pub kind: Kind,
     pub state: Vector,
     pub error: Vector,
     pub nonlinear: Vector,
+    pub kind: Kind,
+    pub ok: bool,
 }
 
 // ---- vectors
@@ -291,6 +291,53 @@ pub fn phi_term(
     ensures { λ r. ⌜ r ≡ phiTerm n (now (a .entry)) «scale_a» order coefficient input ⌝ }
 {
     scaled(phi_action(a, scale_a, order, input, n), coefficient, n)
+}
+
+// The phi action where it is wanted; otherwise what it reports, alone.
+pub fn phi_if(
+    wanted: bool,
+    a: &[f64],
+    scale_a: f64,
+    order: usize,
+    input: Vector,
+    n: usize,
+) -> Action
+    requires { ⌜ Sized n (now a) ⌝ }
+    requires { ⌜ (1 ≤ order) × (order ≤ 4) ⌝ }
+    ensures { λ r. ⌜ r ≡ ifWanted wanted (phiAction n (now (a .entry)) «scale_a» order input) ⌝ }
+{
+    let k = phi_action(a, scale_a, order, input, n);
+    if wanted {
+        return k;
+    }
+    Action {
+        v: [0.0; PLACES],
+        ..k
+    }
+}
+
+// The same of a phi term.
+pub fn phi_term_if(
+    wanted: bool,
+    a: &[f64],
+    scale_a: f64,
+    order: usize,
+    coefficient: f64,
+    input: Vector,
+    n: usize,
+) -> Action
+    requires { ⌜ Sized n (now a) ⌝ }
+    requires { ⌜ (1 ≤ order) × (order ≤ 4) ⌝ }
+    ensures { λ r. ⌜ r ≡ ifWanted wanted (phiTerm n (now (a .entry)) «scale_a» order coefficient input) ⌝ }
+{
+    let k = phi_term(a, scale_a, order, coefficient, input, n);
+    if wanted {
+        return k;
+    }
+    Action {
+        v: [0.0; PLACES],
+        ..k
+    }
 }
 
 // scale_a times every entry.
