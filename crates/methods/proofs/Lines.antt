@@ -164,7 +164,8 @@ handed-later d k h e f = record { holds = rw (e, f) at h }
 -- two passes that ask the same in their first m questions, whatever the answers
 pub data Alike : ℕ → Pass → Pass → Type 0 where
   unasked : {p q : Pass} → Alike zero p q
-  both-ask : {m : ℕ} {t : Tally} {x : List Float} {time : Float} {f g : List Float → Pass} → ((answer : List Float) → Alike m (f answer) (g answer)) → Alike (suc m) (ask t x time f) (ask t x time g)
+  both-ask : {m : ℕ} {t : Tally} {x : List Float} {time : Float} {f g : List Float → Pass}
+      → ((answer : List Float) → Alike m (f answer) (g answer)) → Alike (suc m) (ask t x time f) (ask t x time g)
 
 -- fewer answers than that do not tell them apart
 pub replay-alike : {m : ℕ} {p q : Pass} (n c j : ℕ) (r : List Float) → Alike m p q → c < m → replay n p c j r ≡ replay n q c j r
@@ -175,16 +176,19 @@ replay-alike n (suc c) j r (both-ask next) h = rw (replay-alike n c (suc j) r (n
 
 -- a vector that is worked out only where it is wanted
 wanted-vector : {S : Stand} {b : Tally} {m n c j : ℕ} {r : List Float} (w : Bool) (q p : Action) (next : List Float → Pass)
-    → q ≡ ifWanted w p → (w ≡ false → c < m) → ((x y : List Float) → Alike m (next x) (next y)) → Held S b n (next (q .v)) c j r → Held S b n (next (p .v)) c j r
+    → q ≡ ifWanted w p → (w ≡ false → c < m) → ((x y : List Float) → Alike m (next x) (next y))
+    → Held S b n (next (q .v)) c j r → Held S b n (next (p .v)) c j r
 unfolding ifWanted
 wanted-vector true q p next e few unused h = record { holds = rw e at (h .holds) }
-wanted-vector {n = n} {c = c} {j = j} {r = r} false q p next e few unused h = record { holds = rw (← (replay-alike n c j r (unused (q .v) (p .v)) (few refl))) (h .holds) }
+wanted-vector {n = n} {c = c} {j = j} {r = r} false q p next e few unused h =
+    record { holds = rw (← (replay-alike n c j r (unused (q .v) (p .v)) (few refl))) (h .holds) }
 
--- with d answers it is wanted from the k-th on; before, the pass asks m questions without it, more than it has answers left
+-- a line of it: with d answers it is wanted from the k-th on; before, the c that are left do not lead past the m questions that the pass asks without it
 pub wanted-line : {S : Stand} {b : Tally} {n c j : ℕ} {r : List Float} (m k d : ℕ) (q p : Action) (next : List Float → Pass)
     → q ≡ ifWanted (leb k d) p → (d < k → c < m) → ((x y : List Float) → Alike m (next x) (next y))
     → Held S (joined b (q .tally)) n (next (q .v)) c j r → Held S b n (try p >>= next) c j r
 unfolding ifWanted
 wanted-line m k d q p next e few unused h =
     let t : q .tally ≡ p .tally = rw e in
-    checked-line p p next refl (wanted-vector (leb k d) q p next e (λ f. few (leb-false k d f)) unused (record { holds = rw t at (h .holds) }))
+    checked-line p p next refl
+    (wanted-vector (leb k d) q p next e (λ f. few (leb-false k d f)) unused (record { holds = rw t at (h .holds) }))
