@@ -162,13 +162,13 @@ handed-later d k h e f = record { holds = rw (e, f) at h }
 -- ---- vectors that are not used yet
 
 -- two passes that ask the same in their first m questions, whatever the answers
-pub data Alike : ℕ → Pass → Pass → Type 0 where
-  unasked : {p q : Pass} → Alike zero p q
+pub data AskAlike : ℕ → Pass → Pass → Type 0 where
+  unasked : {p q : Pass} → AskAlike zero p q
   both-ask : {m : ℕ} {t : Tally} {x : List Float} {time : Float} {f g : List Float → Pass}
-      → ((answer : List Float) → Alike m (f answer) (g answer)) → Alike (suc m) (ask t x time f) (ask t x time g)
+      → ((answer : List Float) → AskAlike m (f answer) (g answer)) → AskAlike (suc m) (ask t x time f) (ask t x time g)
 
 -- fewer answers than that do not tell them apart
-pub replay-alike : {m : ℕ} {p q : Pass} (n c j : ℕ) (r : List Float) → Alike m p q → c < m → replay n p c j r ≡ replay n q c j r
+pub replay-alike : {m : ℕ} {p q : Pass} (n c j : ℕ) (r : List Float) → AskAlike m p q → c < m → replay n p c j r ≡ replay n q c j r
 unfolding replay
 replay-alike n c j r unasked h = absurd (omega arith)
 replay-alike n zero j r (both-ask next) h = refl
@@ -176,7 +176,7 @@ replay-alike n (suc c) j r (both-ask next) h = rw (replay-alike n c (suc j) r (n
 
 -- a vector that is worked out only where it is wanted
 wanted-vector : {S : Stand} {b : Tally} {m n c j : ℕ} {r : List Float} (w : Bool) (q p : Action) (next : List Float → Pass)
-    → q ≡ ifWanted w p → (w ≡ false → c < m) → ((x y : List Float) → Alike m (next x) (next y))
+    → q ≡ ifWanted w p → (w ≡ false → c < m) → ((x y : List Float) → AskAlike m (next x) (next y))
     → Held S b n (next (q .v)) c j r → Held S b n (next (p .v)) c j r
 unfolding ifWanted
 wanted-vector true q p next e few unused h = record { holds = rw e at (h .holds) }
@@ -185,7 +185,7 @@ wanted-vector {n = n} {c = c} {j = j} {r = r} false q p next e few unused h =
 
 -- a line of it: with d answers it is wanted from the k-th on; before, the c that are left do not lead past the m questions that the pass asks without it
 pub wanted-line : {S : Stand} {b : Tally} {n c j : ℕ} {r : List Float} (m k d : ℕ) (q p : Action) (next : List Float → Pass)
-    → q ≡ ifWanted (leb k d) p → (d < k → c < m) → ((x y : List Float) → Alike m (next x) (next y))
+    → q ≡ ifWanted (leb k d) p → (d < k → c < m) → ((x y : List Float) → AskAlike m (next x) (next y))
     → Held S (joined b (q .tally)) n (next (q .v)) c j r → Held S b n (try p >>= next) c j r
 unfolding ifWanted
 wanted-line m k d q p next e few unused h =

@@ -64,7 +64,7 @@ fn lawson_etd_pass(
     }
 }
 
-// The pass of any other scheme; above 15 there is none. Its nonlinear part g is not asked for.
+// The pass of any other scheme; above 15 there is none. They do not use g.
 fn other_pass(
     scheme: u8,
     p: Point,
@@ -93,8 +93,7 @@ fn other_pass(
     }
 }
 
-// The pass of the scheme with this number. It goes by two functions, so that no scheme runs beneath the
-// frames of those that it is not one of.
+// The pass of the scheme with this number, by two functions: a call has no room for the schemes of the other.
 fn chosen(
     scheme: u8,
     p: Point,
