@@ -14,9 +14,9 @@ import sys
 
 SMALL = {'add', 'subtract', 'scale', 'axpy', 'added', 'after', 'scaled', 'more', 'combine2', 'combine3', 'a52', 'a54'}
 NONE = {'all-finite', 'finite', 'tested', 'may-ask', 'asked', 'ended', 'joined', 'nothing', 'clean', 'unadmitted', 'powi2', 'powi3', 'powi4', 'powi', 'divisor'}
-PHI = {'phi-term', 'phi-action', 'add-term'}
+PHI = {'phi-term': 2, 'phi-action': 2, 'phi-term-if': 3, 'phi-if': 3, 'add-term': 4}
 LINES = ['begin', 'go-on', 'at-once', 'checked-line', 'over-line', 'over-plain', 'alone', 'reported', 'open-line', 'last-line', 'first-part',
-         'first-over', 'next-part', 'next-made', 'part-now', 'summed', 'answered-line', 'handed-on', 'handed-later']
+         'first-over', 'next-part', 'next-made', 'part-now', 'summed', 'answered-line', 'handed-on', 'handed-later', 'wanted-line', 'both-ask', 'unasked']
 REQUIRES = ['order-1', 'order-2', 'order-3', 'order-4', 'matrix-of', 'plain-answer', 'answer-0', 'answer-1', 'answer-2', 'answer-3']
 AP = {'add': 'add _ _', 'subtract': 'subtract _ _', 'axpy': 'axpy _ _ _'}
 STEP = 4
@@ -186,7 +186,7 @@ class Writer:
             return f'(λ c. omega (arith, {self.given(place)} .early))'
         callee, k = m.group(1), int(m.group(2) or 1) - 1
         if callee in PHI:
-            order = self.fn.args(callee, k)[{'phi-term': 2, 'phi-action': 2, 'add-term': 4}[callee]]
+            order = self.fn.args(callee, k)[PHI[callee]]
             t = f'({self.sized(place)}, order-{order})'
         elif callee in ('exp-action', 'a52-of'):
             t = self.sized(place)
@@ -245,6 +245,10 @@ class Writer:
             return f'checked-line _ _ _ {e(rest[0])}'
         if verb == 'check-by':
             return f'checked-line _ _ _ ({" ".join(rest)})'
+        if verb in ('wanted', 'wanted-by'):
+            m = int(rest[0])
+            fact = e(rest[1]) if verb == 'wanted' else f'({" ".join(rest[1:])})'
+            return f'wanted-line {m} {m + self.passed} (@args .count) _ _ _ {fact} (λ few. omega arith) (λ x y. unfold _>>=_ also in {"both-ask (λ r. " * m}unasked{")" * m})'
         if verb == 'over':
             return f'over-line _ _ _ _ _ {e(rest[0])} {e(rest[1])}'
         if verb == 'over-by':
@@ -297,7 +301,11 @@ class Writer:
         if lines[0][0] == '=':
             text = '\n'.join('    ' + ' '.join(l[1:]) for l in lines)
         else:
-            laws = [self.line(l) for l in lines if l[0] != 'for-all']
+            laws, self.passed = [], self.fn.told
+            for l in lines:
+                if l[0] != 'for-all':
+                    laws.append(self.line(l))
+                    self.passed += l[0] == 'answered'
             text = '\n'.join('    ' + ('(' if i else '') + l for i, l in enumerate(laws)) + ')' * (len(laws) - 1)
         lets, t = self.term(place, text, '    ')
         if heads:
@@ -327,6 +335,8 @@ class Writer:
         vectors = [w for w in ('add', 'subtract', 'axpy', 'scale') if w in words]
         if vectors:
             uses.append(f'use {specs}.Vectors.{{' + ', '.join(vectors) + '}')
+        if 'unfold' in words:
+            uses.append(f'use {specs}.Pass.{{also, _>>=_}}')
         laws = [w for w in LINES if w in words]
         if laws:
             uses.append(f'use {proofs}.Lines.{{' + ', '.join(laws) + '}')

@@ -1,6 +1,6 @@
 // methods.rs: exp4, epirk4s3, epirk5s3 and epirk5p, the schemes over remainders. A pass is replayed over
 // the answers so far: a scheme works out the state of its first question, and a function for each
-// question takes the pass up there.
+// question takes the pass up there. A phi term that the question to come does not use gives its report alone.
 use methods::Action;
 use methods::Out;
 use methods::PLACES;
@@ -20,16 +20,19 @@ use methods::may_ask;
 use methods::more;
 use methods::phi_action;
 use methods::phi_term;
+use methods::phi_term_if;
 use methods::remainder;
 use methods::scale;
 ghost use mathlib.Core.Path.{_≡_};
 ghost use mathlib.Core.Bool.{cond};
 ghost use mathlib.Core.List.{List};
 ghost use Prim.Native.Nat.{ℕ, _+_, _-_, _≤_};
+ghost use lib.Dec.{leb};
 ghost use lib.Ieee.{Float};
 ghost use Rattle.methods.specs.Numbers.{num};
 ghost use Rattle.methods.specs.Vectors.{Sized};
 ghost use Rattle.methods.specs.Given.{Given};
+ghost use Rattle.methods.specs.Parts.{ifWanted};
 ghost use Rattle.methods.specs.Pass.{under, replay, stand};
 ghost use Rattle.methods.specs.Schemes.{exp4, epirk4s3, epirk4s3A, epirk4s3B, epirk5s3, powi, epirk5p, epirk5pEnd, epirk5p1, epirk5p2};
 ghost use Rattle.exp4_epirk.specs.Stages.{exp4·4, exp4·7, epirk4s3·2, epirk4s3·3, epirk5s3·2, epirk5s3·3, epirk5p·1, epirk5p·2};
@@ -145,7 +148,7 @@ pub fn epirk4s3_a(p: Point, a: &[f64], answers: &[f64], first: usize, count: usi
     let c2 = 0.5;
     let c3 = 2.0 / 3.0;
     let k2 = phi_term(a, c2 * h, 1, c2 * h, f0, n);
-    let k3 = phi_term(a, c3 * h, 1, c3 * h, f0, n);
+    let k3 = phi_term_if(1 <= count, a, c3 * h, 1, c3 * h, f0, n);
     epirk4s3(
         p,
         a,
@@ -173,7 +176,15 @@ pub fn epirk4s3_b(p: Point, a: &[f64], answers: &[f64], first: usize, count: usi
     let c2 = 0.5;
     let c3 = 0.75;
     let k2 = phi_term(a, c2 * h, 2, 8.0 * float::powi2(c2 * h) / (3.0 * h), f0, n);
-    let k3 = phi_term(a, c3 * h, 2, 16.0 * float::powi2(c3 * h) / (9.0 * h), f0, n);
+    let k3 = phi_term_if(
+        1 <= count,
+        a,
+        c3 * h,
+        2,
+        16.0 * float::powi2(c3 * h) / (9.0 * h),
+        f0,
+        n,
+    );
     epirk4s3(
         p,
         a,
@@ -191,7 +202,7 @@ pub fn epirk4s3_b(p: Point, a: &[f64], answers: &[f64], first: usize, count: usi
     )
 }
 
-// What the two variants share; k2 and k3 are their first two phi terms.
+// What the two variants share; k2 and k3 are their first two phi terms, the second with its vector from the first answer on.
 fn epirk4s3(
     p: Point,
     a: &[f64],
@@ -208,7 +219,8 @@ fn epirk4s3(
     q3c: f64,
 ) -> Out
     requires { ⌜ Given (p .n) (now a) (now answers) first ⌝ }
-    ensures { λ r. ⌜ stand r ≡ replay (p .n) (epirk4s3 (p .n) (now (a .entry)) (p .state) (p .time) (p .step) (p .f0) k2 k3 c2 c3 r2c r3c q2c q3c) count first (now (answers .entry)) ⌝ }
+    ensures { λ r. ⌜ ((k : Action) → k3 ≡ ifWanted (leb 1 count) k → stand r ≡ replay (p .n)
+        (epirk4s3 (p .n) (now (a .entry)) (p .state) (p .time) (p .step) (p .f0) k2 k c2 c3 r2c r3c q2c q3c) count first (now (answers .entry))) ⌝ }
 {
     let n = p.n;
     let u = p.state;
@@ -532,8 +544,8 @@ fn epirk5p(
     let u = p.state;
     let f0 = p.f0;
     let k11 = phi_term(a, g11 * h, 1, g11 * h, f0, n);
-    let k21 = phi_term(a, g21 * h, 1, g21 * h, f0, n);
-    let k31 = phi_term(a, h, 1, h, f0, n);
+    let k21 = phi_term_if(1 <= count, a, g21 * h, 1, g21 * h, f0, n);
+    let k31 = phi_term_if(2 <= count, a, h, 1, h, f0, n);
     let tally = joined(joined(k11.tally, k21.tally), k31.tally);
     let v11 = k11.v;
     let v21 = k21.v;

@@ -1,10 +1,12 @@
 -- Replaying a pass line by line: S is where the code's record stands, and b what the exponentials have reported so far. Assumes nothing.
-use Prim.Native.Nat.{ℕ, zero, suc, _+_, _-_}
+use Prim.Native.Nat.{ℕ, zero, suc, _+_, _-_, _<_}
 use mathlib.Core.Path.{_≡_, refl, ap}
 use mathlib.Core.Bool.{Bool, true, false, cond, _&&_, and-assoc}
 use mathlib.Core.List.{List}
 use native.Mathlib.Omega.{arith}
+use lib.Dec.{leb}
 use lib.Ieee.{Float}
+use borrow.Author.Tests.{leb-false}
 use Rattle.loops.proofs.Bools.{cond-and}
 use Rattle.float.specs.Arith.{finite}
 use Rattle.evaluation.specs.Evaluation.{allFinite}
@@ -13,7 +15,7 @@ use Rattle.methods.specs.declared.Action.{Action}
 use Rattle.methods.specs.Vectors.{axpy}
 use Rattle.methods.specs.Tally.{tested, clean, joined}
 use Rattle.methods.specs.Phi.{over, more}
-use Rattle.methods.specs.Parts.{mayAsk, mayEnd}
+use Rattle.methods.specs.Parts.{ifWanted, mayAsk, mayEnd}
 use Rattle.methods.specs.Pass.{Pass, ask, done, also, now, try, question, _>>=_, Stand, fails, asks, ends, under, answer, replay}
 
 -- ---- reports
@@ -156,3 +158,37 @@ handed-on h = record { holds = h }
 -- the same, where the numbers are written otherwise
 pub handed-later : {S : Stand} {b : Tally} {n c j : ℕ} {p : Pass} {r : List Float} (d k : ℕ) → S ≡ under b (replay n p d k r) → d ≡ c → k ≡ j → Held S b n p c j r
 handed-later d k h e f = record { holds = rw (e, f) at h }
+
+-- ---- vectors that are not used yet
+
+-- two passes that ask the same in their first m questions, whatever the answers
+pub data AskAlike : ℕ → Pass → Pass → Type 0 where
+  unasked : {p q : Pass} → AskAlike zero p q
+  both-ask : {m : ℕ} {t : Tally} {x : List Float} {time : Float} {f g : List Float → Pass}
+      → ((answer : List Float) → AskAlike m (f answer) (g answer)) → AskAlike (suc m) (ask t x time f) (ask t x time g)
+
+-- fewer answers than that do not tell them apart
+pub replay-alike : {m : ℕ} {p q : Pass} (n c j : ℕ) (r : List Float) → AskAlike m p q → c < m → replay n p c j r ≡ replay n q c j r
+unfolding replay
+replay-alike n c j r unasked h = absurd (omega arith)
+replay-alike n zero j r (both-ask next) h = refl
+replay-alike n (suc c) j r (both-ask next) h = rw (replay-alike n c (suc j) r (next (answer n r j)) (omega arith))
+
+-- a vector that is worked out only where it is wanted
+wanted-vector : {S : Stand} {b : Tally} {m n c j : ℕ} {r : List Float} (w : Bool) (q p : Action) (next : List Float → Pass)
+    → q ≡ ifWanted w p → (w ≡ false → c < m) → ((x y : List Float) → AskAlike m (next x) (next y))
+    → Held S b n (next (q .v)) c j r → Held S b n (next (p .v)) c j r
+unfolding ifWanted
+wanted-vector true q p next e few unused h = record { holds = rw e at (h .holds) }
+wanted-vector {n = n} {c = c} {j = j} {r = r} false q p next e few unused h =
+    record { holds = rw (← (replay-alike n c j r (unused (q .v) (p .v)) (few refl))) (h .holds) }
+
+-- a line of it: with d answers it is wanted from the k-th on; before, the c that are left do not lead past the m questions that the pass asks without it
+pub wanted-line : {S : Stand} {b : Tally} {n c j : ℕ} {r : List Float} (m k d : ℕ) (q p : Action) (next : List Float → Pass)
+    → q ≡ ifWanted (leb k d) p → (d < k → c < m) → ((x y : List Float) → AskAlike m (next x) (next y))
+    → Held S (joined b (q .tally)) n (next (q .v)) c j r → Held S b n (try p >>= next) c j r
+unfolding ifWanted
+wanted-line m k d q p next e few unused h =
+    let t : q .tally ≡ p .tally = rw e in
+    checked-line p p next refl
+    (wanted-vector (leb k d) q p next e (λ f. few (leb-false k d f)) unused (record { holds = rw t at (h .holds) }))

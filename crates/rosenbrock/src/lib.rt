@@ -1,6 +1,7 @@
 // methods.rs: the exponential Rosenbrock schemes exprb32, exprb43 and exprb53s3; the first two have an
 // error vector. A pass is replayed over the answers so far: a scheme works out the state of its first
-// question, and a function for each question takes the pass up there.
+// question, and a function for each question takes the pass up there. A phi action that the question to
+// come does not use gives its report alone.
 use methods::Out;
 use methods::PLACES;
 use methods::Point;
@@ -16,7 +17,9 @@ use methods::ended;
 use methods::joined;
 use methods::may_ask;
 use methods::phi_action;
+use methods::phi_if;
 use methods::phi_term;
+use methods::phi_term_if;
 use methods::remainder;
 use methods::scale;
 use methods::shifted_stage;
@@ -93,9 +96,10 @@ pub fn exprb43(p: Point, a: &[f64], au: Vector, answers: &[f64], first: usize, c
     let u = p.state;
     let f1 = p.f0;
     let k1h = phi_action(a, h / 2.0, 1, f1, n);
-    let k11 = phi_action(a, h, 1, f1, n);
-    let k13 = phi_action(a, h, 3, f1, n);
-    let k14 = phi_action(a, h, 4, f1, n);
+    let last = 2 <= count;
+    let k11 = phi_if(last, a, h, 1, f1, n);
+    let k13 = phi_if(last, a, h, 3, f1, n);
+    let k14 = phi_if(last, a, h, 4, f1, n);
     let tally = joined(joined(joined(k1h.tally, k11.tally), k13.tally), k14.tally);
     let w1h = k1h.v;
     let w11 = k11.v;
@@ -131,8 +135,9 @@ fn exprb43_2(
     }
     let f2 = shifted_stage(a, u2, au, answers, first, n);
     let k21 = phi_action(a, h, 1, f2, n);
-    let k23 = phi_action(a, h, 3, f2, n);
-    let k24 = phi_action(a, h, 4, f2, n);
+    let last = 2 <= count;
+    let k23 = phi_if(last, a, h, 3, f2, n);
+    let k24 = phi_if(last, a, h, 4, f2, n);
     let tally = joined(joined(joined(tally, k21.tally), k23.tally), k24.tally);
     let w21 = k21.v;
     let w23 = k23.v;
@@ -212,7 +217,7 @@ pub fn exprb53s3(p: Point, a: &[f64], answers: &[f64], first: usize, count: usiz
     let u = p.state;
     let f0 = p.f0;
     let k2 = phi_term(a, h / 2.0, 1, h / 2.0, f0, n);
-    let k3base = phi_term(a, 0.9 * h, 1, 0.9 * h, f0, n);
+    let k3base = phi_term_if(1 <= count, a, 0.9 * h, 1, 0.9 * h, f0, n);
     let tally = joined(k2.tally, k3base.tally);
     let v2 = k2.v;
     let v3base = k3base.v;

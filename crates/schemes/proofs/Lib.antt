@@ -1,1 +1,1 @@
-pub mod None
+pub mod Choice

@@ -25,14 +25,16 @@ use rosenbrock::exprb32;
 use rosenbrock::exprb43;
 use rosenbrock::exprb53s3;
 ghost use mathlib.Core.Path.{_≡_};
+ghost use mathlib.Core.List.{List};
 ghost use Prim.Native.Nat.{_≤_};
+ghost use lib.Ieee.{Float};
 ghost use Rattle.matrix.specs.Vector.{matVec};
 ghost use Rattle.methods.specs.Given.{Given};
 ghost use Rattle.methods.specs.Pass.{replay, stand};
 ghost use Rattle.methods.specs.Step.{pass, questions, finish, performStep, progress};
 
-// The pass of the scheme with this number.
-fn chosen(
+// The pass of a Lawson or ETD scheme: 0 to 5, and 13.
+fn lawson_etd_pass(
     scheme: u8,
     p: Point,
     a: &[f64],
@@ -43,7 +45,7 @@ fn chosen(
     count: usize,
 ) -> Out
     requires { ⌜ Given (p .n) (now a) (now answers) first ⌝ }
-    requires { ⌜ au ≡ matVec (p .n) (now a) (p .state) ⌝ }
+    requires { ⌜ (6 ≤ scheme → scheme ≡ 13) ⌝ }
     ensures { λ r. ⌜ stand r ≡ replay (p .n) (pass scheme p (now (a .entry)) au g) count first (now (answers .entry)) ⌝ }
 {
     let n = p.n;
@@ -58,6 +60,26 @@ fn chosen(
         3 => etdrk3(p, a, au, answers, first, count),
         4 => etdrk4(p, a, au, answers, first, count),
         5 => hoch_ost4(p, a, au, answers, first, count),
+        _ => etd2(a, u, h, g, p.held, previous, n),
+    }
+}
+
+// The pass of any other scheme; above 15 there is none. They do not use g.
+fn other_pass(
+    scheme: u8,
+    p: Point,
+    a: &[f64],
+    au: Vector,
+    answers: &[f64],
+    first: usize,
+    count: usize,
+) -> Out
+    requires { ⌜ Given (p .n) (now a) (now answers) first ⌝ }
+    requires { ⌜ au ≡ matVec (p .n) (now a) (p .state) ⌝ }
+    requires { ⌜ (6 ≤ scheme) × (scheme ≡ 13 → ⊥) ⌝ }
+    ensures { λ r. ⌜ ((g : List Float) → stand r ≡ replay (p .n) (pass scheme p (now (a .entry)) au g) count first (now (answers .entry))) ⌝ }
+{
+    match scheme {
         6 => exp4(p, a, answers, first, count),
         7 => epirk4s3_a(p, a, answers, first, count),
         8 => epirk4s3_b(p, a, answers, first, count),
@@ -65,10 +87,31 @@ fn chosen(
         10 => exprb53s3(p, a, answers, first, count),
         11 => epirk5p1(p, a, answers, first, count),
         12 => epirk5p2(p, a, answers, first, count),
-        13 => etd2(a, u, h, g, p.held, previous, n),
         14 => exprb32(p, a, au, answers, first, count),
         15 => exprb43(p, a, au, answers, first, count),
         _ => ended(unadmitted(), [0.0; PLACES], [0.0; PLACES]),
+    }
+}
+
+// The pass of the scheme with this number, by two functions: a call has no room for the schemes of the other.
+fn chosen(
+    scheme: u8,
+    p: Point,
+    a: &[f64],
+    au: Vector,
+    g: Vector,
+    answers: &[f64],
+    first: usize,
+    count: usize,
+) -> Out
+    requires { ⌜ Given (p .n) (now a) (now answers) first ⌝ }
+    requires { ⌜ au ≡ matVec (p .n) (now a) (p .state) ⌝ }
+    ensures { λ r. ⌜ stand r ≡ replay (p .n) (pass scheme p (now (a .entry)) au g) count first (now (answers .entry)) ⌝ }
+{
+    if (scheme < 6) | (scheme == 13) {
+        lawson_etd_pass(scheme, p, a, au, g, answers, first, count)
+    } else {
+        other_pass(scheme, p, a, au, answers, first, count)
     }
 }
 

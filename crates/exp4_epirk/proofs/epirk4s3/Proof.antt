@@ -1,9 +1,11 @@
 -- `exp4_epirk::epirk4s3`: its pass, up to the question about u2. Assumes nothing.
+use native.Mathlib.Omega.{arith}
 use mathlib.Core.Path.{refl}
 use Rattle.methods.specs.Numbers.{numbers}
 use Rattle.methods.specs.Schemes.{epirk4s3}
 use Rattle.exp4_epirk.specs.Stages.{epirk4s3·2, epirk4s3·3}
-use Rattle.methods.proofs.Lines.{begin, at-once, checked-line, alone, reported, handed-on}
+use Rattle.methods.specs.Pass.{also, _>>=_}
+use Rattle.methods.proofs.Lines.{begin, at-once, checked-line, alone, reported, handed-on, wanted-line, both-ask, unasked}
 use Rattle.exp4_epirk.proofs.epirk4s3.Statement.{statement}
 use Rattle.exp4_epirk.proofs.epirk4s3.Tie as tie
 
@@ -20,10 +22,12 @@ returns c =
     let at-add2 = c .before in
     let at-add = at-add2 .before in
     let at-joined = at-add .before .before .before in
+    let entry = at-joined .before .before .before .before in
+    λ k given.
     begin _ _ _ _ _
     (checked-line _ _ _ refl
     (alone _ _
-    (checked-line _ _ _ refl
+    (wanted-line 1 1 (entry .args .count) _ _ _ (given) (λ few. omega arith) (λ x y. unfold _>>=_ also in both-ask (λ r. unasked))
     (reported _ (at-joined .joined .ensures)
     (at-once _ _ _ (at-add .add .ensures)
     (at-once _ _ _ (at-add2 .add2 .ensures)

@@ -12,9 +12,9 @@ start-phi-term c = c .before .before .before .before
 returns : tie.Need-returns
 unfolding numbers epirk4s3A
 returns c =
-    let at-phi-term2 = c .before in
-    let at-phi-term = at-phi-term2 .before in
-    rw (at-phi-term .phi-term .ensures, at-phi-term2 .phi-term2 .ensures) at (c .epirk4s3 .ensures)
+    let at-phi-term-if = c .before in
+    let at-phi-term = at-phi-term-if .before in
+    rw (at-phi-term .phi-term .ensures) at (c .epirk4s3 .ensures _ (at-phi-term-if .phi-term-if .ensures))
 
 pub epirk4s3-a-spec : {M : Type 1} → statement M
 epirk4s3-a-spec =

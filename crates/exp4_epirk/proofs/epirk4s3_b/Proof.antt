@@ -12,11 +12,11 @@ start-powi2 c = c .before .before .before .before
 returns : tie.Need-returns
 unfolding numbers epirk4s3B
 returns c =
-    let at-phi-term2 = c .before in
-    let at-powi22 = at-phi-term2 .before in
+    let at-phi-term-if = c .before in
+    let at-powi22 = at-phi-term-if .before in
     let at-phi-term = at-powi22 .before in
     let at-powi2 = at-phi-term .before in
-    rw (at-phi-term .phi-term .ensures, at-phi-term2 .phi-term2 .ensures, at-powi2 .powi2 .ensures, at-powi22 .powi22 .ensures) at (c .epirk4s3 .ensures)
+    rw (at-phi-term .phi-term .ensures, at-powi2 .powi2 .ensures, at-powi22 .powi22 .ensures) at (c .epirk4s3 .ensures _ (at-phi-term-if .phi-term-if .ensures))
 
 pub epirk4s3-b-spec : {M : Type 1} → statement M
 epirk4s3-b-spec =
