@@ -7,6 +7,7 @@ use mathlib.Core.List.{List}
 use lib.Dec.{eqb}
 use lib.Ieee.{Float}
 use lib.ListN.{length}
+use borrow.Author.Tests.{eqb-true}
 use Rattle.loops.proofs.Bools.{both-true}
 use Rattle.evaluation.specs.Sizes.{answersKept}
 use Rattle.session.specs.declared.Session.{Session}
@@ -21,15 +22,16 @@ use Rattle.session.specs.declared.Phase.the-variants.{Rest, Asking}
 use Rattle.session.specs.declared.Wants.{Wants}
 use Rattle.session.specs.declared.Wants.the-variants.{Any, Only}
 use Rattle.session.specs.Tests.{fault, condition, unless}
-use Rattle.session.specs.Session.{Sound, clear, usedJacobian, admits, good7, sessionTests, progress}
+use Rattle.session.specs.Session.{Run, Sound, clear, usedJacobian, admits, good7, sessionTests, progress}
 use Rattle.session.specs.Claims.{Typed, Closed}
-use Rattle.session.specs.Calls.{Outcome, outcome, tell, refuse, refuseLent, opened, begun, rested, answered, shown, attemptOf, attemptTests, beginTests, supplyTests, beginCall, supplyCall}
+use Rattle.session.specs.Calls.{Outcome, outcome, tell, refuse, refuseLent, opened, nothing, openCall, begun, rested, answered, shown, attemptOf, attemptTests, beginTests, supplyTests, beginCall, supplyCall}
 use Rattle.session.specs.Figures.{FIGURES, sessionOf, numbersOf, figuresOf}
-use Rattle.session.specs.Lent.{toldBy, refusedBy, Remains, remains, left, fills, lentCall, lentFill}
+use Rattle.session.specs.Lent.{toldBy, refusedBy, Remains, remains, left, fills, lentCall, lentOpen, lentFill}
 use Rattle.session.proofs.Tests.{unless-refused}
 use Rattle.session.proofs.Laws.{fault-none, wants-more, few-answers, begin-passes, begin-length, supply-passes, vector-length, attempt-row, begun-sound, answered-sound}
 use Rattle.session.proofs.Closed.{passed-good, good-closed, begun-good}
 use Rattle.session.proofs.Drops.{rested-same}
+use Rattle.session.proofs.Inverse.{figures-back}
 
 -- ---- begin
 
@@ -125,3 +127,49 @@ module _ (s : Session) (x out : List Float) {k : ℕ} (e : k ≡ fault (supplyTe
         supply-six t y n g d =
             let f : outcome (refuse s 6) out' ≡ shown s next out (progress next) = rw t at (sh s) in
             rw (g, d, ← e, z, ← same) f
+
+-- ---- what the calls over lent slices leave
+
+-- where every length is right
+module _ (k : Numbers) (x : List Float) {fits : Bool} (right : fits ≡ true) {l : Left} (y : List Float) (long : length y ≡ FIGURES) where
+  home : remains (left (toldBy l y)) (figuresOf (toldBy l y .session)) ≡ remains l y
+  unfolding left
+  home = ap (remains (left (toldBy l y))) (figures-back (l .numbers) y long) ∙ (unfold sessionOf in refl)
+
+  pub lent-made : (call : Session → Told) → toldBy l y ≡ call (sessionOf k x) → remains l y ≡ lentCall fits k x call
+  unfolding lentCall
+  lent-made call e = rw (right, ← e) (sym home)
+
+  pub lent-filled : (out out' : List Float) (call : Session → List Float → Outcome) → outcome (toldBy l y) out' ≡ call (sessionOf k x) out
+      → fills l y out' ≡ lentFill fits k x out call
+  unfolding lentFill
+  lent-filled out out' call e = rw (right, ← e) (ap (λ (r : Remains). record { remains = r; out = out' }) (sym home))
+
+  pub lent-opened : (r : Run) → toldBy l y ≡ openCall r → remains l y ≡ lentOpen fits x r
+  unfolding lentOpen
+  lent-opened r e = rw (right, ← e) (sym home)
+
+-- where one is not
+module _ (k : Numbers) (x : List Float) {fits : Bool} (wrong : fits ≡ false) {l : Left} where
+  pub lent-refused : (call : Session → Told) → l ≡ refusedBy k 1 → remains l x ≡ lentCall fits k x call
+  unfolding lentCall
+  lent-refused call e = rw (wrong, e)
+
+  pub lent-unfilled : (out : List Float) (call : Session → List Float → Outcome) → l ≡ refusedBy k 1 → fills l x out ≡ lentFill fits k x out call
+  unfolding lentFill
+  lent-unfilled out call e = rw (wrong, e)
+
+  pub lent-unopened : (r : Run) → k ≡ numbersOf nothing → l ≡ refusedBy k 1 → remains l x ≡ lentOpen fits x r
+  unfolding lentOpen
+  lent-unopened r n e = rw (wrong, e, n)
+
+-- the lengths that a test found right
+pub two-long : {a b c d : ℕ} → (eqb a b && eqb c d) ≡ true → (a ≡ b) × (c ≡ d)
+two-long {a} {b} {c} {d} e = let p = both-true (eqb a b) (eqb c d) e in (eqb-true a b (p .0), eqb-true c d (p .1))
+
+pub four-long : (a b c d m n : ℕ) → (eqb a m && eqb b n && eqb c n && eqb d n) ≡ true → (a ≡ m) × ((b ≡ n) × (c ≡ n) × (d ≡ n))
+four-long a b c d m n e =
+    let p = both-true (eqb a m && eqb b n && eqb c n) (eqb d n) e in
+    let q = both-true (eqb a m && eqb b n) (eqb c n) (p .0) in
+    let r = both-true (eqb a m) (eqb b n) (q .0) in
+    (eqb-true a m (r .0), (eqb-true b n (r .1), eqb-true c n (q .1), eqb-true d n (p .1)))

@@ -8,6 +8,8 @@ use lib.Ieee.{Float}
 use lib.ListN.{length, take}
 use Rattle.session.specs.declared.Session.{Session}
 use Rattle.session.specs.declared.Numbers.{Numbers}
+use Rattle.session.specs.declared.History.{History}
+use Rattle.session.specs.declared.Attempt.the-variants.{None}
 use Rattle.session.specs.declared.Left.{Left}
 use Rattle.session.specs.declared.Told.{Told}
 use Rattle.session.specs.declared.Answer.{Answer}
@@ -25,6 +27,10 @@ use Rattle.session.specs.Figures.{FIGURES, sessionOf, numbersOf, figures
 -- 3, of the arrays
 abbrev pub arraysFinite : Session → Bool
 arraysFinite s = allFinite (s .state) && allFinite (s .derivative) && allFinite (s .previous) && allFinite (s .jacobian) && allFinite (s .answers)
+
+-- the numbers of a run that is to be opened
+abbrev pub unopened : ℕ → ℕ → History → Numbers
+unopened scheme n history = record { scheme = scheme; n = n; history = history; attempt = None; count = 0 }
 
 -- a column of the differenced Jacobian
 abbrev pub columnOf : Session → ℕ → Bool

@@ -21,7 +21,7 @@ ghost use Rattle.session.specs.Figures.{FIGURES, stateAt, derivativeAt, 
 ghost use Rattle.session.specs.Calls.{outcome, tell, refuse, opened, nothing, begun, rested, answered, moved, readyOf, answerOf, shown, arrived, settled};
 ghost use Rattle.session.specs.Calls.{vectorTests, attemptOf, attemptTests, largestTests, beginTests, supplyTests, acceptTests, firstStepTests};
 ghost use Rattle.session.specs.Calls.{openCall, beginCall, supplyCall, acceptCall, dropCall, firstStepCall};
-ghost use Rattle.session.specs.Lent.{arraysFinite, columnOf, columnAsked, steppedFrom, suppliedFrom, toldBy, refusedBy, restingAt, remains, fills};
+ghost use Rattle.session.specs.Lent.{arraysFinite, unopened, columnOf, columnAsked, steppedFrom, suppliedFrom, toldBy, refusedBy, restingAt, remains, fills};
 ghost use Rattle.session.specs.Lent.{lentCall, lentOpen, lentAsk, lentFill};
 ghost use Rattle.session.specs.Bare.{bare, exponentialTests, exponentialCall, phiTests, phiCall, normTests, normCall};
 
@@ -873,7 +873,20 @@ fn put_nothing(figures: &mut [f64]) -> Numbers
     no_numbers()
 }
 
-// Its numbers.
+// The numbers of a run that is to be opened.
+fn unopened(scheme: u8, n: usize, history: History) -> Numbers
+    ensures { λ r. ⌜ r ≡ unopened scheme n history ⌝ }
+{
+    Numbers {
+        scheme,
+        n,
+        history,
+        attempt: Attempt::None,
+        count: 0,
+    }
+}
+
+// Those of what a refused open leaves.
 fn no_numbers() -> Numbers
     ensures { λ r. ⌜ r ≡ numbersOf nothing ⌝ }
 {
@@ -1100,13 +1113,7 @@ impl Numbers {
             & (derivative.len() == PLACES)
             & (previous.len() == PLACES)
         {
-            let k = Numbers {
-                scheme,
-                n,
-                history,
-                attempt: Attempt::None,
-                count: 0,
-            };
+            let k = unopened(scheme, n, history);
             return open_over(k, time, relative, absolute, state, derivative, previous, figures);
         }
         refused(no_numbers(), 1)
@@ -1194,7 +1201,7 @@ impl Session {
     }
 
     pub fn figures(self) -> [f64; FIGURES]
-        ensures { λ r. ⌜ r ≡ figuresOf self ⌝ }
+        ensures { λ r. ⌜ (r ≡ figuresOf self) × (sessionOf (numbersOf self) r ≡ self) ⌝ }
     {
         let state = self.state;
         let derivative = self.derivative;
@@ -1283,15 +1290,14 @@ impl Session {
         }) ⌝ }
     {
         let mut figures = [0.0; FIGURES];
-        let left = Numbers::open(
-            scheme,
-            n,
+        let k = unopened(scheme, n, history);
+        let left = open_over(
+            k,
             time,
-            &state,
-            &derivative,
             relative,
             absolute,
-            history,
+            &state,
+            &derivative,
             &previous,
             &mut figures,
         );
@@ -1303,7 +1309,7 @@ impl Session {
         ensures { λ r. ⌜ outcome r (now (out .exit)) ≡ beginCall self step wish jacobian (now (out .entry)) ⌝ }
     {
         let mut figures = self.figures();
-        let left = self.numbers().begin(&mut figures, step, wish, &jacobian, &mut *out);
+        let left = begin_over(self.numbers(), &mut figures, step, wish, &jacobian, &mut *out);
         given_back(left, figures)
     }
 
@@ -1312,7 +1318,7 @@ impl Session {
         ensures { λ r. ⌜ outcome r (now (out .exit)) ≡ supplyCall self answer (now (out .entry)) ⌝ }
     {
         let mut figures = self.figures();
-        let left = self.numbers().supply(&mut figures, &answer, &mut *out);
+        let left = supply_over(self.numbers(), &mut figures, &answer, &mut *out);
         given_back(left, figures)
     }
 
@@ -1321,7 +1327,7 @@ impl Session {
         ensures { λ r. ⌜ r ≡ acceptCall self derivative ⌝ }
     {
         let mut figures = self.figures();
-        let left = self.numbers().accept(&mut figures, &derivative);
+        let left = accept_over(self.numbers(), &mut figures, &derivative);
         given_back(left, figures)
     }
 
@@ -1330,7 +1336,7 @@ impl Session {
         ensures { λ r. ⌜ r ≡ dropCall self ⌝ }
     {
         let mut figures = self.figures();
-        let left = self.numbers().drop(&mut figures);
+        let left = drop_over(self.numbers(), &mut figures);
         given_back(left, figures)
     }
 
@@ -1339,7 +1345,7 @@ impl Session {
         ensures { λ r. ⌜ r ≡ firstStepCall self largest ⌝ }
     {
         let figures = self.figures();
-        let answer = self.numbers().first_step(&figures, largest);
+        let answer = first_step_over(self.numbers(), &figures, largest);
         Told {
             answer,
             session: self,
