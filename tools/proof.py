@@ -52,7 +52,7 @@ def reach(records, place):
 
 def answer(need, term, known):
     """A need's answer, with a `let` for each point that its term names."""
-    names = re.findall(r'§([\w₀-₉-]+)', term)
+    names = re.findall(r'§([\w₀-₉«»-]+)', term)
     for name in names:
         if name not in known:
             sys.exit(f'{need}: no §{name}; there are ' + ', '.join(known))
@@ -65,7 +65,7 @@ def answer(need, term, known):
         lets.append((depth, last))
         last = depth
     point = lambda d: f'c{d}' if d else 'c'
-    term = re.sub(r'§([\w₀-₉-]+)', lambda m: f'{point(known[m.group(1)])} .{m.group(1)}', term)
+    term = re.sub(r'§([\w₀-₉«»-]+)', lambda m: f'{point(known[m.group(1)])} .{m.group(1)}', term)
     if not lets:
         return f'    (λ {binders}. {term})'
     lines = [f'    let {point(d)} = {point(b)}{" .before" * (d - b)} in' for d, b in lets]

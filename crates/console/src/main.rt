@@ -3,7 +3,8 @@
 ghost use mathlib.Core.Path.{_≡_};
 ghost use Prim.Native.Nat.{_+_, _*_, _≤_};
 ghost use lib.ListN.{length};
-ghost use Rattle.image.specs.Image.{NUMBERS, FIGURES};
+ghost use Rattle.image.specs.Image.{NUMBERS};
+ghost use Rattle.session.specs.Figures.{FIGURES};
 use session::Answer;
 use session::History;
 use session::Session;
@@ -361,8 +362,8 @@ fn put_image(numbers: &[u64], figures: &[f64], b: &mut [u8])
 
 fn show_call(s: Session) -> Next {
     let mut numbers = [0u64; image::NUMBERS];
-    let mut figures = [0.0; image::FIGURES];
-    image::pack(s, &mut numbers, &mut figures);
+    image::put_numbers(s.numbers(), &mut numbers);
+    let figures = s.figures();
     let mut b = [0u8; IMAGE];
     put_image(&numbers, &figures, &mut b);
     let on = io::write_all(1, &b);
@@ -378,7 +379,8 @@ fn loaded(b: &[u8]) -> Session
     }
     let mut figures = [0.0; image::FIGURES];
     doubles(b, image::NUMBERS, &mut figures);
-    image::unpack(&numbers, &figures)
+    let k = image::numbers_in(&numbers);
+    Session::of(k, figures)
 }
 
 fn load_call(s: Session) -> Next {

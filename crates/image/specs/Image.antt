@@ -1,26 +1,28 @@
--- A session's image: the numbers and figures that it crosses to other programs as, and what is told of an answer. Definitions only.
+-- A session's image: the numbers, as words, and the figures that it crosses to other programs as, and what is told of an answer. Definitions only.
 use Prim.Native.Nat.{ℕ, _+_, _*_, _≤_, _<_}
 use mathlib.Core.Path.{_≡_}
 use mathlib.Core.Bool.{cond}
-use mathlib.Core.List.{List, [], _∷_, _++_}
+use mathlib.Core.List.{List, [], _∷_}
 use lib.Dec.{ltb, eqb}
 use lib.Ieee.{Float}
 use lib.ListN.{length, getD}
-use Rattle.loops.specs.Loop.{tab, _!_}
 use Rattle.image.specs.declared.Reply.{Reply}
 use Rattle.session.specs.Values.{Values}
 use Rattle.session.specs.declared.Session.{Session}
+use Rattle.session.specs.declared.Numbers.{Numbers}
 use Rattle.session.specs.declared.History.{History}
 use Rattle.session.specs.declared.History.the-variants.{Missing, Held}
 use Rattle.evaluation.specs.Sizes.{places, answerRoom}
 use Rattle.session.specs.Session.{jacobianRoom}
+use Rattle.session.specs.Figures.{FIGURES, sessionOf, numbersOf, figuresOf}
 use Rattle.session.specs.Claims.{Typed}
 use Rattle.session.specs.declared.Attempt.{Attempt}
 use Rattle.session.specs.declared.Attempt.the-variants.{None, Supplied, Differenced}
 use Rattle.session.specs.declared.Wish.{Wish}
 use Rattle.session.specs.declared.Wish.the-variants.{Given, Difference}
 
--- ---- how many there are, and where each field stands: behind the one before it. The code's constants have the same names, as STATE_AT for stateAt
+-- ---- how many there are, and where each number stands: behind the one before it. The code's constants have the same names, as N_AT for nAt. Where each
+-- figure stands: session/specs/Figures.antt
 
 -- places of a vector, of a Jacobian, of the 20 answers
 abbrev pub VECTOR : ℕ
@@ -50,37 +52,6 @@ countAt = attemptAt + 1
 
 abbrev pub NUMBERS : ℕ
 NUMBERS = countAt + 1
-
--- among the figures
-abbrev pub timeAt : ℕ
-timeAt = 0
-
-abbrev pub stepAt : ℕ
-stepAt = timeAt + 1
-
-abbrev pub relativeAt : ℕ
-relativeAt = stepAt + 1
-
-abbrev pub absoluteAt : ℕ
-absoluteAt = relativeAt + 1
-
-abbrev pub stateAt : ℕ
-stateAt = absoluteAt + 1
-
-abbrev pub derivativeAt : ℕ
-derivativeAt = stateAt + VECTOR
-
-abbrev pub previousAt : ℕ
-previousAt = derivativeAt + VECTOR
-
-abbrev pub jacobianAt : ℕ
-jacobianAt = previousAt + VECTOR
-
-abbrev pub answersAt : ℕ
-answersAt = jacobianAt + MATRIX
-
-abbrev pub FIGURES : ℕ
-FIGURES = answersAt + ANSWERS
 
 -- among the words of a reply
 abbrev pub outcomeAt : ℕ
@@ -124,46 +95,29 @@ attemptNumber Differenced = 2
 
 -- ---- a session as numbers and figures
 
--- n figures of x from place `at` on
-unfoldable pub part : List Float → ℕ → ℕ → List Float
-part x at n = tab n (λ i. x ! (at + i))
-
--- the first n of x
-unfoldable pub first : ℕ → List Float → List Float
-first n x = tab n (λ i. x ! i)
-
-unfoldable pub unpacked : List ℕ → List Float → Session
-unpacked numbers figures = record {
-  scheme = schemeOf (getD numbers schemeAt 0);
-  n = getD numbers nAt 0;
-  time = figures ! timeAt;
-  state = part figures stateAt VECTOR;
-  derivative = part figures derivativeAt VECTOR;
-  relative = figures ! relativeAt;
-  absolute = figures ! absoluteAt;
-  history = historyOf (getD numbers historyAt 0);
-  previous = part figures previousAt VECTOR;
-  attempt = attemptOf (getD numbers attemptAt 0);
-  step = figures ! stepAt;
-  jacobian = part figures jacobianAt MATRIX;
-  count = getD numbers countAt 0;
-  answers = part figures answersAt ANSWERS;
+-- the numbers that words hold
+unfoldable pub numbersIn : List ℕ → Numbers
+numbersIn words = record {
+  scheme = schemeOf (getD words schemeAt 0);
+  n = getD words nAt 0;
+  history = historyOf (getD words historyAt 0);
+  attempt = attemptOf (getD words attemptAt 0);
+  count = getD words countAt 0;
 }
 
-unfoldable pub packedNumbers : Session → List ℕ
-packedNumbers s = s .scheme ∷ s .n ∷ historyNumber (s .history) ∷ attemptNumber (s .attempt) ∷ s .count ∷ []
+-- the session that words and figures hold
+abbrev pub unpacked : List ℕ → List Float → Session
+unpacked words figures = sessionOf (numbersIn words) figures
 
--- a session's arrays, each with its size, in the order of their places
-abbrev pub arrays : Session → List (ℕ × List Float)
-arrays s = (VECTOR, s .state) ∷ (VECTOR, s .derivative) ∷ (VECTOR, s .previous) ∷ (MATRIX, s .jacobian) ∷ (ANSWERS, s .answers) ∷ []
+-- numbers as words
+unfoldable pub packed : Numbers → List ℕ
+packed k = k .scheme ∷ k .n ∷ historyNumber (k .history) ∷ attemptNumber (k .attempt) ∷ k .count ∷ []
 
--- arrays one behind the other
-unfoldable pub joined : List (ℕ × List Float) → List Float
-joined [] = []
-joined ((n, x) ∷ more) = first n x ++ joined more
+abbrev pub packedNumbers : Session → List ℕ
+packedNumbers s = packed (numbersOf s)
 
-unfoldable pub packedFigures : Session → List Float
-packedFigures s = (s .time ∷ s .step ∷ s .relative ∷ s .absolute ∷ []) ++ joined (arrays s)
+abbrev pub packedFigures : Session → List Float
+packedFigures s = figuresOf s
 
 -- ---- packing and unpacking are each other's inverse (proofs/Inverse.antt)
 

@@ -1,20 +1,17 @@
-// A session's image, for every program that a session crosses to: 5 numbers and 628 figures, and where each field stands among them; enums as
-// numbers; and what is told of an answer.
+// A session's image, for every program that a session crosses to: 5 numbers, as words, and 628 figures, and where each field stands among them;
+// enums as numbers; and what is told of an answer.
 //
 // A number that its field cannot hold is none that is good: a scheme above 255 counts as 255, a history above 1 as held, an attempt above 2 as
 // differenced, a wish above 1 as a Jacobian that is given. n and count are taken as they are.
 ghost use mathlib.Core.Path.{_≡_};
-ghost use Prim.Native.Nat.{_+_, _≤_};
-ghost use lib.ListN.{length, set};
-ghost use Rattle.loops.specs.Loop.{stores, _!_};
-ghost use Rattle.image.specs.Image.{VECTOR, MATRIX, ANSWERS, NUMBERS, timeAt, stepAt, relativeAt, absoluteAt, stateAt, FIGURES};
-ghost use Rattle.image.specs.Image.{schemeOf, historyOf, attemptOf, wishOf, historyNumber, attemptNumber, part, unpacked, packedNumbers, packedFigures, fields};
+ghost use lib.ListN.{length};
+ghost use Rattle.image.specs.Image.{VECTOR, NUMBERS};
+ghost use Rattle.image.specs.Image.{schemeOf, historyOf, attemptOf, wishOf, historyNumber, attemptNumber, numbersIn, packed, fields};
 ghost use Rattle.session.specs.Values.{figured, valuesOf};
 use session::Answer;
 use session::Attempt;
 use session::History;
 use session::Numbers;
-use session::Session;
 use session::Wish;
 
 // ---- how many there are, and where each field stands: behind the one before it
@@ -155,40 +152,49 @@ fn attempt_number(a: Attempt) -> u64
     }
 }
 
-// ---- a session as numbers and figures
+// ---- a vector that is lent
 
-// The numbers that the slice holds.
-pub fn numbers_in(numbers: &[u64]) -> Numbers {
-    let history = history_of(numbers[HISTORY_AT]);
-    let attempt = attempt_of(numbers[ATTEMPT_AT]);
+// All of x, as a vector.
+pub fn vector_of(x: &[f64]) -> [f64; VECTOR]
+    requires { ⌜ length (now x) ≡ VECTOR ⌝ }
+    ensures { λ r. ⌜ r ≡ now (x .entry) ⌝ }
+{
+    session::figures::vector_at(x, 0)
+}
+
+// ---- numbers as words
+
+// The numbers that the words hold.
+pub fn numbers_in(words: &[u64]) -> Numbers
+    requires { ⌜ length (now words) ≡ NUMBERS ⌝ }
+    ensures { λ r. ⌜ r ≡ numbersIn (now (words .entry)) ⌝ }
+{
+    let scheme = scheme_of(words[SCHEME_AT]);
+    let n = words[N_AT] as usize;
+    let history = history_of(words[HISTORY_AT]);
+    let attempt = attempt_of(words[ATTEMPT_AT]);
+    let count = words[COUNT_AT] as usize;
     Numbers {
-        scheme: scheme_of(numbers[SCHEME_AT]),
-        n: numbers[N_AT] as usize,
+        scheme,
+        n,
         history,
         attempt,
-        count: numbers[COUNT_AT] as usize,
+        count,
     }
 }
 
-pub fn put_numbers(k: Numbers, numbers: &mut [u64]) {
+// Numbers into the words.
+pub fn put_numbers(k: Numbers, words: &mut [u64])
+    requires { ⌜ length (now words) ≡ NUMBERS ⌝ }
+    ensures { λ _. ⌜ now (words .exit) ≡ packed k ⌝ }
+{
     let history = k.history;
     let attempt = k.attempt;
-    numbers[SCHEME_AT] = k.scheme as u64;
-    numbers[N_AT] = k.n as u64;
-    numbers[HISTORY_AT] = history_number(history);
-    numbers[ATTEMPT_AT] = attempt_number(attempt);
-    numbers[COUNT_AT] = k.count as u64;
-}
-
-// The session that the slices hold.
-pub fn unpack(numbers: &[u64], figures: &[f64]) -> Session {
-    session::session_of(numbers_in(numbers), figures)
-}
-
-// A session into the slices.
-pub fn pack(s: Session, numbers: &mut [u64], figures: &mut [f64]) {
-    put_numbers(session::numbers_of(s), numbers);
-    session::put_figures(s, figures);
+    words[SCHEME_AT] = k.scheme as u64;
+    words[N_AT] = k.n as u64;
+    words[HISTORY_AT] = history_number(history);
+    words[ATTEMPT_AT] = attempt_number(attempt);
+    words[COUNT_AT] = k.count as u64;
 }
 
 // ---- what is told

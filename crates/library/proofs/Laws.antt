@@ -5,8 +5,10 @@ use mathlib.Core.List.{List}
 use lib.Dec.{eqb}
 use lib.Ieee.{Float}
 use lib.ListN.{length}
-use borrow.Author.Tests.{eqb-true}
-use Rattle.image.specs.Image.{VECTOR, NUMBERS, FIGURES, WORDS}
+use Prim.Native.Nat.{ℕ}
+use borrow.Author.Tests.{eqb-true, eq-eqb}
+use Rattle.session.specs.Figures.{FIGURES}
+use Rattle.image.specs.Image.{VECTOR, NUMBERS, WORDS}
 use Rattle.library.specs.Library.{Room, Slices, heard, fitting, vectors, Hears, Fits}
 
 -- ---- both halves of a test
@@ -61,3 +63,10 @@ three x y z e =
 -- what the tests of a call show: the slices fit
 pub tested : (a : Bool) {b : Bool} (l : Slices) → b ≡ fitting l → (a && b) ≡ true → Fits l
 tested a l f h = fits l (sym f ∙ and-right a _ h)
+
+-- two lengths as the calls over lent figures test them
+pub right-two : (a b c d : ℕ) → a ≡ b → c ≡ d → (eqb a b && eqb c d) ≡ true
+right-two a b c d e f = rw (eq-eqb a b e, eq-eqb c d f)
+
+pub right-four : (a b c d m n : ℕ) → a ≡ m → b ≡ n → c ≡ n → d ≡ n → (eqb a m && eqb b n && eqb c n && eqb d n) ≡ true
+right-four a b c d m n e f g h = rw (eq-eqb a m e, eq-eqb b n f, eq-eqb c n g, eq-eqb d n h)

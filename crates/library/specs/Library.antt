@@ -6,7 +6,8 @@ use mathlib.Core.List.{List, [], _∷_}
 use lib.Dec.{eqb}
 use lib.Ieee.{Float}
 use lib.ListN.{length}
-use Rattle.image.specs.Image.{VECTOR, NUMBERS, FIGURES, WORDS, unpacked, packedNumbers, packedFigures}
+use Rattle.session.specs.Figures.{FIGURES}
+use Rattle.image.specs.Image.{VECTOR, NUMBERS, WORDS, unpacked, packedNumbers, packedFigures}
 use Rattle.session.specs.declared.Session.{Session}
 use Rattle.session.specs.declared.Told.{Told}
 use Rattle.session.specs.declared.Answer.{Answer}

@@ -5,19 +5,19 @@
 // `told`, one figure: Ask's time, Ready's error norm, the first step, the norm, otherwise +0.0. Outcomes: 0 Refused, 1 Ask, 2 Ready,
 // 3 Resting, 4 First step, 5 Filled, 6 Norm.
 //
-// A refused call writes neither numbers nor figures nor the output. A refused open overwrites numbers and figures, whatever they held: they become
-// those of the session that a refused open gives, which any call refuses.
+// A call works on the figures that it is lent, copies no session, and writes only what changes. A refused call leaves numbers, figures and
+// output as they were. A refused open overwrites numbers and figures, whatever they held: they become those of the session that a refused open
+// gives, which any call refuses.
 ghost use mathlib.Core.Path.{_≡_};
-ghost use mathlib.Core.Bool.{true};
+ghost use mathlib.Core.Bool.{true, cond};
 ghost use lib.Dec.{eqb};
 ghost use lib.ListN.{length};
-ghost use Rattle.image.specs.Image.{VECTOR, MATRIX, schemeOf, historyOf, wishOf};
-ghost use Rattle.library.specs.Library.{room, slices, heard, fitting, vectors, Hears, Fits, Said, Back, Open, Call, CallLent, Ask, Bared, BaredLent};
+ghost use Rattle.image.specs.Image.{VECTOR, MATRIX, NUMBERS, schemeOf, historyOf, wishOf, packed};
+ghost use Rattle.library.specs.Library.{room, slices, heard, fitting, vectors, Hears, Said, Open, Call, CallLent, Ask, Bared, BaredLent};
 ghost use Rattle.session.specs.Calls.{openCall, beginCall, supplyCall, acceptCall, dropCall, firstStepCall};
 ghost use Rattle.session.specs.Bare.{exponentialCall, phiCall, normCall};
 ghost use Rattle.session.specs.Values.{isRefused};
 use session::Answer;
-use session::Attempt;
 use session::Left;
 use session::Numbers;
 
@@ -67,8 +67,12 @@ fn say(answer: Answer, words: &mut [u64], told: &mut [f64]) -> bool
     r.outcome == image::REFUSED
 }
 
-// What a call told, and the numbers of its session, unless it was refused.
-fn give_back(left: Left, numbers: &mut [u64], words: &mut [u64], told: &mut [f64]) {
+// What a call told, and the numbers of the session that it left, unless it was refused.
+fn give_back(left: Left, numbers: &mut [u64], words: &mut [u64], told: &mut [f64])
+    requires { ⌜ (length (now numbers) ≡ NUMBERS) × Hears (room (now words) (now told)) ⌝ }
+    ensures { λ _. ⌜ (now (numbers .exit) ≡ cond (isRefused (left .answer)) (now (numbers .entry)) (packed (left .numbers)))
+        × Said (left .answer) (room (now (words .exit)) (now (told .exit))) ⌝ }
+{
     let answer = left.answer;
     let k = left.numbers;
     if say(answer, words, told) {
@@ -112,27 +116,22 @@ pub extern "C" fn vunchrem_open(
         (slices (now (numbers .exit)) (now (figures .exit)) (now (words .exit)) (now (told .exit))) ⌝ }
 {
     if three(state, derivative, previous) & lent(&*numbers, &*figures, &*words, &*told) {
-        let history = image::history_of(held);
-        let k = Numbers {
-            scheme: image::scheme_of(scheme),
-            n: n as usize,
-            history,
-            attempt: Attempt::None,
-            count: 0,
-        };
-        let left = k.open(
+        let left = Numbers::open(
+            image::scheme_of(scheme),
+            n as usize,
             time,
-            relative,
-            absolute,
             state,
             derivative,
+            relative,
+            absolute,
+            image::history_of(held),
             previous,
             figures,
         );
         let answer = left.answer;
-        let after = left.numbers;
+        let k = left.numbers;
         say(answer, words, told);
-        image::put_numbers(after, numbers);
+        image::put_numbers(k, numbers);
         return 0;
     }
     1
@@ -157,13 +156,8 @@ pub extern "C" fn vunchrem_begin(
         (now (out .entry)) (now (out .exit)) ⌝ }
 {
     if sized(jacobian, image::MATRIX) & lent(&*numbers, &*figures, &*words, &*told) {
-        let left = image::numbers_in(&*numbers).begin(
-            figures,
-            step,
-            image::wish_of(wish),
-            jacobian,
-            out,
-        );
+        let k = image::numbers_in(&*numbers);
+        let left = k.begin(figures, step, image::wish_of(wish), jacobian, out);
         give_back(left, numbers, words, told);
         return 0;
     }
@@ -187,7 +181,8 @@ pub extern "C" fn vunchrem_supply(
         (now (out .entry)) (now (out .exit)) ⌝ }
 {
     if sized(answer, image::VECTOR) & lent(&*numbers, &*figures, &*words, &*told) {
-        let left = image::numbers_in(&*numbers).supply(figures, answer, out);
+        let k = image::numbers_in(&*numbers);
+        let left = k.supply(figures, answer, out);
         give_back(left, numbers, words, told);
         return 0;
     }
@@ -209,7 +204,8 @@ pub extern "C" fn vunchrem_accept(
         (slices (now (numbers .exit)) (now (figures .exit)) (now (words .exit)) (now (told .exit))) ⌝ }
 {
     if sized(derivative, image::VECTOR) & lent(&*numbers, &*figures, &*words, &*told) {
-        let left = image::numbers_in(&*numbers).accept(figures, derivative);
+        let k = image::numbers_in(&*numbers);
+        let left = k.accept(figures, derivative);
         give_back(left, numbers, words, told);
         return 0;
     }
@@ -229,7 +225,8 @@ pub extern "C" fn vunchrem_drop(
         (slices (now (numbers .exit)) (now (figures .exit)) (now (words .exit)) (now (told .exit))) ⌝ }
 {
     if lent(&*numbers, &*figures, &*words, &*told) {
-        let left = image::numbers_in(&*numbers).drop(figures);
+        let k = image::numbers_in(&*numbers);
+        let left = k.drop(figures);
         give_back(left, numbers, words, told);
         return 0;
     }
@@ -250,8 +247,8 @@ pub extern "C" fn vunchrem_first_step(
         (room (now (words .exit)) (now (told .exit))) ⌝ }
 {
     if lent(numbers, figures, &*words, &*told) {
-        let answer = image::numbers_in(numbers).first_step(figures, largest);
-        say(answer, words, told);
+        let k = image::numbers_in(numbers);
+        say(k.first_step(figures, largest), words, told);
         return 0;
     }
     1
@@ -321,7 +318,14 @@ pub extern "C" fn vunchrem_error_norm(
         (room (now (words .entry)) (now (told .entry))) (room (now (words .exit)) (now (told .exit))) ⌝ }
 {
     if three(error, state, candidate) & hearing(&*words, &*told) {
-        let answer = session::error_norm(n as usize, relative, absolute, error, state, candidate);
+        let answer = session::error_norm(
+            n as usize,
+            relative,
+            absolute,
+            image::vector_of(error),
+            image::vector_of(state),
+            image::vector_of(candidate),
+        );
         say(answer, words, told);
         return 0;
     }

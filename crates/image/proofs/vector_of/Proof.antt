@@ -2,7 +2,7 @@
 use native.Mathlib.Omega.{arith}
 use mathlib.Core.Path.{_∙_}
 use Rattle.image.specs.Image.{VECTOR}
-use Rattle.image.proofs.Laws.{whole}
+use Rattle.session.proofs.Parts.{whole-part}
 use Rattle.image.proofs.vector_of.Statement.{statement}
 use Rattle.image.proofs.vector_of.Tie as tie
 
@@ -13,4 +13,4 @@ vector-of-spec =
     (λ c κs. omega arith)
     (λ c.
     let start = c .before .before in
-    c .vector-at .ensures ∙ whole (start .args .x .now) VECTOR (start .pre)))
+    c .vector-at .ensures ∙ whole-part (start .args .x .now) VECTOR (start .pre)))

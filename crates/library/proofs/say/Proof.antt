@@ -3,7 +3,7 @@ use borrow.Author.Needs.{needs}
 use lib.Ieee.{nan}
 use Rattle.loops.specs.Loop.{tab, from}
 use Rattle.image.specs.Image.{WORDS}
-use Rattle.image.proofs.Laws.{spelt}
+use Rattle.image.proofs.Inverse.{spelt}
 use Rattle.session.specs.Values.{isRefused}
 use Rattle.library.proofs.say.Statement.{statement}
 use Rattle.library.proofs.say.Tie as tie

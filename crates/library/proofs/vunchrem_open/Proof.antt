@@ -1,8 +1,12 @@
 -- `library::vunchrem_open` meets its contract. Assumes nothing.
 use borrow.Author.Needs.{needs}
 use mathlib.Core.Path.{refl, sym, _∙_}
+use lib.ListN.{length}
+use Rattle.image.specs.Image.{VECTOR}
+use Rattle.session.specs.Figures.{FIGURES}
 use Rattle.library.specs.Library.{Crossing}
-use Rattle.library.proofs.Laws.{and-left, three, tested}
+use Rattle.library.proofs.Laws.{and-left, three, tested, right-four}
+use Rattle.library.proofs.Kept.{lent-open}
 use Rattle.library.proofs.vunchrem_open.Statement.{statement}
 use Rattle.library.proofs.vunchrem_open.Tie as tie
 
@@ -14,67 +18,56 @@ vunchrem-open-spec =
     (λ c κs. search needs)
     (λ c κs. search needs)
     (λ c κs. search needs)
-    (λ c κs.
-    let test = c .before in
-    let given = test .before .before .before .before .before .before in
-    let long = three _ _ _ (sym (given .three .ensures) ∙ and-left (given .three .result) (test .before .lent .result) (test .if1 .taken)) in
-    long .first)
-    (λ c κs.
-    let test = c .before .before in
-    let given = test .before .before .before .before .before .before in
-    let long = three _ _ _ (sym (given .three .ensures) ∙ and-left (given .three .result) (test .before .lent .result) (test .if1 .taken)) in
-    long .second)
+    (λ c κs. search needs)
     (λ c κs. search needs)
     (λ c κs.
-    let test = c .before .before .before .before in
-    let given = test .before .before .before .before .before .before in
-    let long = three _ _ _ (sym (given .three .ensures) ∙ and-left (given .three .result) (test .before .lent .result) (test .if1 .taken)) in
-    long .third)
-    (λ c κs. search needs)
+    let c4 = c .before .before .before .before in
+    let c8 = c4 .before .before .before .before in
+    let c9 = c8 .before in
+    let c10 = c9 .before in
+    let c14 = c10 .before .before .before .before in
+    let c15 = c14 .before in
+    tested (c15 .three .result) _ (c10 .lent .ensures) (c9 .if1 .taken) .reply)
     (λ c κs.
-    let opened = c .before .before .before in
-    let test = opened .before .before .before .before .before .before in
-    let given = test .before .before .before .before .before .before in
-    tested (given .three .result) _ (test .before .lent .ensures) (test .if1 .taken) .reply)
-    (λ c κs.
-    let said = c .before .before .before .before .before .before in
-    let opened = said .before .before .before .before in
-    let test = opened .before .before .before .before .before .before in
-    let given = test .before .before .before .before .before .before in
-    let fit = tested (given .three .result) _ (test .before .lent .ensures) (test .if1 .taken) in
-    (fit .numbers, fit .figures))
+    let c4 = c .before .before .before .before in
+    let c8 = c4 .before .before .before .before in
+    let c12 = c8 .before .before .before .before in
+    let c15 = c12 .before .before .before in
+    let c16 = c15 .before in
+    let c20 = c16 .before .before .before .before in
+    let c21 = c20 .before in
+    tested (c21 .three .result) _ (c16 .lent .ensures) (c15 .if1 .taken) .numbers)
     (λ c. search needs)
     (λ c. search needs)
     (λ c. search needs)
     (λ c. search needs)
     (λ c.
-    let packed = c .before .before .before .before in
-    let told = packed .before .before .before .before in
-    let said = told .before .before .before in
-    let opened = said .before .before .before .before in
-    let previous = opened .before in
-    let history = previous .before in
-    let derivative = history .before in
-    let state = derivative .before in
-    let scheme = state .before in
-    let test = scheme .before in
-    let given = test .before .before .before .before .before .before in
-    rw (
-      ← (given .three .ensures),
-      ← (test .before .lent .ensures),
-      test .if1 .taken,
-      ← (scheme .scheme-of .ensures),
-      ← (state .vector-of .ensures),
-      ← (derivative .vector-of2 .ensures),
-      ← (history .history-of .ensures),
-      ← (previous .vector-of3 .ensures),
-      ← (opened .«open» .ensures),
-    )
-    (refl, record { numbers = packed .pack .ensures .0; figures = packed .pack .ensures .1; said = said .say .ensures .0 }))
+    let c2 = c .before .before in
+    let c6 = c2 .before .before .before .before in
+    let c8 = c6 .before .before in
+    let c12 = c8 .before .before .before .before in
+    let c14 = c12 .before .before in
+    let c16 = c14 .before .before in
+    let c17 = c16 .before in
+    let c18 = c17 .before in
+    let c19 = c18 .before in
+    let c23 = c19 .before .before .before .before in
+    let c24 = c23 .before in
+    let c28 = c24 .before .before .before .before in
+    let c32 = c28 .before .before .before .before in
+    let long = three _ _ _ (sym (c24 .three .ensures) ∙ and-left (c24 .three .result) (c19 .lent .result) (c18 .if1 .taken)) in
+    rw (← (c24 .three .ensures), ← (c19 .lent .ensures), c18 .if1 .taken) (
+      refl,
+      lent-open (c32 .args .figures .now)
+          (right-four (length (c32 .args .figures .now)) (length (c32 .args .state .now)) (length (c32 .args .derivative .now)) (length (c32 .args .previous .now)) FIGURES VECTOR (tested (c24 .three .result) _ (c19 .lent .ensures) (c18 .if1 .taken) .figures) (long .first) (long .second) (long .third))
+          _ (rw (c17 .scheme-of .ensures, c16 .history-of .ensures) at (c14 .«open» .ensures)) (c2 .put-numbers .ensures) (c8 .say .ensures .0),
+    ))
     (λ c. search needs)
     (λ c. search needs)
     (λ c. search needs)
     (λ c. search needs)
     (λ c.
-    let given = c .before .before .before .before .before .before in
-    rw (← (given .three .ensures), ← (c .before .lent .ensures), c .if1 .left) (refl, refl)))
+    let c1 = c .before in
+    let c5 = c1 .before .before .before .before in
+    let c6 = c5 .before in
+    rw (← (c6 .three .ensures), ← (c1 .lent .ensures), c .if1 .left) (refl, refl)))
