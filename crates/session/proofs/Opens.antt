@@ -1,7 +1,7 @@
 -- The tests of a run that is to be opened: its attempt holds nothing. Assumes nothing.
 use Prim.Native.Nat.{ℕ}
 use mathlib.Core.Path.{_≡_, refl, sym, ap, _∙_}
-use mathlib.Core.Bool.{Bool, true, false, cond, _&&_, and-true}
+use mathlib.Core.Bool.{Bool, true, false, cond, not, _&&_, and-true}
 use mathlib.Core.List.{List, [], _∷_}
 use lib.Ieee.{Float, ofBits}
 use lib.ListN.{replicate}
@@ -69,6 +69,13 @@ module _ (r : Run) where
 pub time-and-arrays : {t a b c t' a' b' c' : Bool} → t ≡ t' → a ≡ a' → b ≡ b' → c ≡ c' → (t && (a && b && c)) ≡ (t' && a' && b' && c')
 time-and-arrays {t' = true} e f g h = rw (e, f, g, h)
 time-and-arrays {t' = false} e f g h = rw e
+
+-- a test as the code took it
+pub true-not : {b : Bool} → b ≡ true → not b ≡ false
+true-not e = rw e
+
+pub false-not : {b : Bool} → b ≡ false → not b ≡ true
+false-not e = rw e
 
 -- each array is finite where all are
 pub each-finite : {a b c : Bool} (x y z : List Float) → a ≡ allFinite x → b ≡ allFinite y → c ≡ allFinite z → (a && b && c) ≡ true

@@ -403,13 +403,13 @@ fn run_fault(
     if !good2(k) {
         return 2;
     }
-    if !good4(relative, absolute) {
-        return 4;
-    }
-    if !(float::finite(time) & calm) {
+    if good4(relative, absolute) {
+        if float::finite(time) & calm {
+            return 0;
+        }
         return 3;
     }
-    0
+    4
 }
 
 // ---- what is refused of what is handed in
@@ -1045,11 +1045,12 @@ fn accept_over(k: Numbers, figures: &mut [f64], derivative: &[f64]) -> Left
     requires { ⌜ (length (now figures) ≡ FIGURES) × (length (now derivative) ≡ places) ⌝ }
     ensures { λ r. ⌜ toldBy r (now (figures .exit)) ≡ acceptCall (sessionOf k (now (figures .entry))) (now (derivative .entry)) ⌝ }
 {
+    let kept = k;
     let fault = accept_fault(k, &*figures, derivative);
     if fault == 0 {
         return settle(k, figures, derivative);
     }
-    refused(k, fault)
+    refused(kept, fault)
 }
 
 fn drop_over(k: Numbers, figures: &mut [f64]) -> Left

@@ -4,13 +4,10 @@ use mathlib.Core.Path.{refl, sym, ap, _∙_}
 use mathlib.Core.Bool.{_&&_}
 use mathlib.Core.List.{[]}
 use borrow.Author.Tests.{not-false}
-use Rattle.loops.proofs.Bools.{both-true}
-use Rattle.session.specs.Session.{sizeOk, good2, fresh, idle}
-use Rattle.session.specs.Calls.{opened}
-use Rattle.session.specs.Figures.{sessionOf}
+use Rattle.session.specs.Session.{sizeOk}
 use Rattle.session.proofs.Tests.{stops, holds-on, all-hold}
 use Rattle.session.proofs.Laws.{size-both}
-use Rattle.session.proofs.Opens.{opening, time-and-arrays, opened-good2, each-finite}
+use Rattle.session.proofs.Opens.{opening, time-and-arrays, opened-good2, each-finite, true-not, false-not}
 use Rattle.session.proofs.run_fault.Statement.{statement}
 use Rattle.session.proofs.run_fault.Tie as tie
 
@@ -45,18 +42,6 @@ run-fault-spec =
     rw (opening _) (holds-on 1 _ refl (c4 .if1 .left) (holds-on 1 _ (c3 .run-places .ensures) (c2 .if2 .left)
     (stops 2 _ (opened-good2 (c11 .args .k) _ (c11 .pre .0) (c11 .pre .1) refl refl refl (c1 .good2 .ensures [])) (c .if3 .taken)))))
     (λ c κs. search needs)
-    (λ c.
-    let c1 = c .before in
-    let c2 = c1 .before in
-    let c3 = c2 .before in
-    let c4 = c3 .before in
-    let c5 = c4 .before in
-    let c6 = c5 .before in
-    let c10 = c6 .before .before .before .before in
-    let c13 = c10 .before .before .before in
-    rw (opening _) (holds-on 1 _ refl (c6 .if1 .left) (holds-on 1 _ (c5 .run-places .ensures) (c4 .if2 .left)
-    (holds-on 2 _ (opened-good2 (c13 .args .k) _ (c13 .pre .0) (c13 .pre .1) refl refl refl (c3 .good2 .ensures [])) (c2 .if3 .left)
-    (stops 4 _ (c1 .good4 .ensures) (c .if4 .taken))))))
     (λ c κs. search needs)
     (λ c.
     let c1 = c .before in
@@ -73,8 +58,8 @@ run-fault-spec =
     let c15 = c11 .before .before .before .before in
     rw (opening _) (holds-on 1 _ refl (c8 .if1 .left) (holds-on 1 _ (c7 .run-places .ensures) (c6 .if2 .left)
     (holds-on 2 _ (opened-good2 (c15 .args .k) _ (c15 .pre .0) (c15 .pre .1) refl refl refl (c5 .good2 .ensures [])) (c4 .if3 .left)
-    (holds-on 4 _ (c3 .good4 .ensures) (c2 .if4 .left)
-    (stops 3 _ (time-and-arrays (c1 .finite .ensures) (c11 .all-finite .ensures) (c10 .all-finite2 .ensures) (c9 .all-finite3 .ensures)) (c .if5 .taken)))))))
+    (holds-on 4 _ (c3 .good4 .ensures) (true-not (c2 .if4 .taken))
+    (holds-on 3 _ (time-and-arrays (c1 .finite .ensures) (c11 .all-finite .ensures) (c10 .all-finite2 .ensures) (c9 .all-finite3 .ensures)) (true-not (c .if5 .taken)) all-hold))))))
     (λ c.
     let c1 = c .before in
     let c2 = c1 .before in
@@ -90,5 +75,17 @@ run-fault-spec =
     let c15 = c11 .before .before .before .before in
     rw (opening _) (holds-on 1 _ refl (c8 .if1 .left) (holds-on 1 _ (c7 .run-places .ensures) (c6 .if2 .left)
     (holds-on 2 _ (opened-good2 (c15 .args .k) _ (c15 .pre .0) (c15 .pre .1) refl refl refl (c5 .good2 .ensures [])) (c4 .if3 .left)
-    (holds-on 4 _ (c3 .good4 .ensures) (c2 .if4 .left)
-    (holds-on 3 _ (time-and-arrays (c1 .finite .ensures) (c11 .all-finite .ensures) (c10 .all-finite2 .ensures) (c9 .all-finite3 .ensures)) (c .if5 .left) all-hold)))))))
+    (holds-on 4 _ (c3 .good4 .ensures) (true-not (c2 .if4 .taken))
+    (stops 3 _ (time-and-arrays (c1 .finite .ensures) (c11 .all-finite .ensures) (c10 .all-finite2 .ensures) (c9 .all-finite3 .ensures)) (false-not (c .if5 .left))))))))
+    (λ c.
+    let c1 = c .before in
+    let c2 = c1 .before in
+    let c3 = c2 .before in
+    let c4 = c3 .before in
+    let c5 = c4 .before in
+    let c6 = c5 .before in
+    let c10 = c6 .before .before .before .before in
+    let c13 = c10 .before .before .before in
+    rw (opening _) (holds-on 1 _ refl (c6 .if1 .left) (holds-on 1 _ (c5 .run-places .ensures) (c4 .if2 .left)
+    (holds-on 2 _ (opened-good2 (c13 .args .k) _ (c13 .pre .0) (c13 .pre .1) refl refl refl (c3 .good2 .ensures [])) (c2 .if3 .left)
+    (stops 4 _ (c1 .good4 .ensures) (false-not (c .if4 .left))))))))
