@@ -164,8 +164,8 @@ module _ (k : Numbers) (x : List Float) {fits : Bool} (wrong : fits ≡ false) {
   lent-unopened r n e = rw (wrong, e, n)
 
 -- the lengths that a test found right
-pub two-long : {a b c d : ℕ} → (eqb a b && eqb c d) ≡ true → (a ≡ b) × (c ≡ d)
-two-long {a} {b} {c} {d} e = let p = both-true (eqb a b) (eqb c d) e in (eqb-true a b (p .0), eqb-true c d (p .1))
+pub two-long : (a b c d : ℕ) → (eqb a b && eqb c d) ≡ true → (a ≡ b) × (c ≡ d)
+two-long a b c d e = let p = both-true (eqb a b) (eqb c d) e in (eqb-true a b (p .0), eqb-true c d (p .1))
 
 pub four-long : (a b c d m n : ℕ) → (eqb a m && eqb b n && eqb c n && eqb d n) ≡ true → (a ≡ m) × ((b ≡ n) × (c ≡ n) × (d ≡ n))
 four-long a b c d m n e =

@@ -1,12 +1,13 @@
 // A session's figures, one behind the other: how many there are, where each field stands, and copies.
 ghost use mathlib.Core.Path.{_≡_};
 ghost use Prim.Native.Nat.{_+_, _≤_};
-ghost use lib.ListN.{length};
+ghost use lib.ListN.{length, set};
 ghost use Rattle.loops.specs.Loop.{stores, _!_};
 ghost use Rattle.float.specs.Arith.{zero+};
 ghost use Rattle.evaluation.specs.Sizes.{places, answerRoom};
 ghost use Rattle.session.specs.Session.{jacobianRoom};
-ghost use Rattle.session.specs.Figures.{part};
+ghost use Rattle.session.specs.Figures.{timeAt, stepAt, relativeAt, absoluteAt, stateAt, FIGURES, part, figuresOf};
+use crate::Session;
 use evaluation::PLACES;
 use evaluation::ROOM;
 
@@ -88,4 +89,53 @@ pub fn answers_at(x: &[f64], at: usize) -> [f64; ROOM]
     let mut out = [0.0; ROOM];
     get(x, at, &mut out);
     out
+}
+
+fn put_vector(x: [f64; PLACES], out: &mut [f64], at: usize)
+    requires { ⌜ at + places ≤ length (now out) ⌝ }
+    ensures { λ _. ⌜ now (out .exit) ≡ stores (λ i _. x ! i) at places (now (out .entry)) ⌝ }
+{
+    put(&x, out, at);
+}
+
+fn put_matrix(x: [f64; JACOBIAN], out: &mut [f64], at: usize)
+    requires { ⌜ at + jacobianRoom ≤ length (now out) ⌝ }
+    ensures { λ _. ⌜ now (out .exit) ≡ stores (λ i _. x ! i) at jacobianRoom (now (out .entry)) ⌝ }
+{
+    put(&x, out, at);
+}
+
+fn put_answers(x: [f64; ROOM], out: &mut [f64], at: usize)
+    requires { ⌜ at + answerRoom ≤ length (now out) ⌝ }
+    ensures { λ _. ⌜ now (out .exit) ≡ stores (λ i _. x ! i) at answerRoom (now (out .entry)) ⌝ }
+{
+    put(&x, out, at);
+}
+
+fn put_head(time: f64, step: f64, relative: f64, absolute: f64, out: &mut [f64])
+    requires { ⌜ stateAt ≤ length (now out) ⌝ }
+    ensures { λ _. ⌜ now (out .exit) ≡ set (set (set (set (now (out .entry)) timeAt «time») stepAt «step») relativeAt «relative») absoluteAt «absolute» ⌝ }
+{
+    out[TIME_AT] = time;
+    out[STEP_AT] = step;
+    out[RELATIVE_AT] = relative;
+    out[ABSOLUTE_AT] = absolute;
+}
+
+// All figures of a session.
+pub fn put_session(s: Session, out: &mut [f64])
+    requires { ⌜ length (now out) ≡ FIGURES ⌝ }
+    ensures { λ _. ⌜ now (out .exit) ≡ figuresOf s ⌝ }
+{
+    let state = s.state;
+    let derivative = s.derivative;
+    let previous = s.previous;
+    let jacobian = s.jacobian;
+    let answers = s.answers;
+    put_head(s.time, s.step, s.relative, s.absolute, &mut *out);
+    put_vector(state, &mut *out, STATE_AT);
+    put_vector(derivative, &mut *out, DERIVATIVE_AT);
+    put_vector(previous, &mut *out, PREVIOUS_AT);
+    put_matrix(jacobian, &mut *out, JACOBIAN_AT);
+    put_answers(answers, &mut *out, ANSWERS_AT);
 }

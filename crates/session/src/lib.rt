@@ -227,7 +227,8 @@ fn good1(k: Numbers, figures: &[f64], calm: bool) -> bool
             &figures[DERIVATIVE_AT..PREVIOUS_AT],
             &figures[PREVIOUS_AT..JACOBIAN_AT],
             calm,
-        ) & attempt_places(k, figures, calm);
+        )
+            & attempt_places(k, figures, calm);
     }
     false
 }
@@ -587,14 +588,7 @@ fn stepped_from(k: Numbers, figures: &[f64], a: &mut [f64]) -> methods::StepResu
         n,
         &mut *a,
     );
-    schemes::perform_step(
-        k.scheme,
-        point_of(k, figures),
-        &*a,
-        answers,
-        n,
-        k.count - n,
-    )
+    schemes::perform_step(k.scheme, point_of(k, figures), &*a, answers, n, k.count - n)
 }
 
 // Whether the first m columns were asked at finite states and are finite.
@@ -843,16 +837,16 @@ fn put_run(
     requires { ⌜ length (now figures) ≡ FIGURES ⌝ }
     requires { ⌜ (length (now state) ≡ places) × (length (now derivative) ≡ places) × (length (now previous) ≡ places) ⌝ }
     ensures { λ _. ⌜ ((k : Numbers) → k .attempt ≡ Attempt.None → k .count ≡ 0 → sessionOf k (now (figures .exit)) ≡ opened (record {
-        scheme = k .scheme;
-        n = k .n;
-        time = «time»;
-        state = now (state .entry);
-        derivative = now (derivative .entry);
-        relative = «relative»;
-        absolute = «absolute»;
-        history = k .history;
-        previous = now (previous .entry);
-      })) ⌝ }
+      scheme = k .scheme;
+      n = k .n;
+      time = «time»;
+      state = now (state .entry);
+      derivative = now (derivative .entry);
+      relative = «relative»;
+      absolute = «absolute»;
+      history = k .history;
+      previous = now (previous .entry);
+    })) ⌝ }
 {
     figures[TIME_AT] = time;
     figures[STEP_AT] = 0.0;
@@ -933,20 +927,28 @@ fn open_over(
     requires { ⌜ (length (now state) ≡ places) × (length (now derivative) ≡ places) × (length (now previous) ≡ places) ⌝ }
     requires { ⌜ (k .attempt ≡ Attempt.None) × (k .count ≡ 0) ⌝ }
     ensures { λ r. ⌜ toldBy r (now (figures .exit)) ≡ openCall (record {
-        scheme = k .scheme;
-        n = k .n;
-        time = «time»;
-        state = now (state .entry);
-        derivative = now (derivative .entry);
-        relative = «relative»;
-        absolute = «absolute»;
-        history = k .history;
-        previous = now (previous .entry);
-      }) ⌝ }
+      scheme = k .scheme;
+      n = k .n;
+      time = «time»;
+      state = now (state .entry);
+      derivative = now (derivative .entry);
+      relative = «relative»;
+      absolute = «absolute»;
+      history = k .history;
+      previous = now (previous .entry);
+    }) ⌝ }
 {
     let fault = run_fault(k, time, relative, absolute, state, derivative, previous);
     if fault == 0 {
-        put_run(time, relative, absolute, state, derivative, previous, figures);
+        put_run(
+            time,
+            relative,
+            absolute,
+            state,
+            derivative,
+            previous,
+            figures,
+        );
         return resting(k);
     }
     refused(put_nothing(figures), fault)
@@ -1095,18 +1097,18 @@ impl Numbers {
         figures: &mut [f64],
     ) -> Left
         ensures { λ r. ⌜ remains r (now (figures .exit)) ≡ lentOpen
-        (eqb (length (now (figures .entry))) FIGURES && eqb (length (now (state .entry))) places && eqb (length (now (derivative .entry))) places && eqb (length (now (previous .entry))) places)
-        (now (figures .entry)) (record {
-          scheme = scheme;
-          n = n;
-          time = «time»;
-          state = now (state .entry);
-          derivative = now (derivative .entry);
-          relative = «relative»;
-          absolute = «absolute»;
-          history = history;
-          previous = now (previous .entry);
-        }) ⌝ }
+            (eqb (length (now (figures .entry))) FIGURES && eqb (length (now (state .entry))) places && eqb (length (now (derivative .entry))) places && eqb (length (now (previous .entry))) places)
+            (now (figures .entry)) (record {
+              scheme = scheme;
+              n = n;
+              time = «time»;
+              state = now (state .entry);
+              derivative = now (derivative .entry);
+              relative = «relative»;
+              absolute = «absolute»;
+              history = history;
+              previous = now (previous .entry);
+            }) ⌝ }
     {
         if (figures.len() == FIGURES)
             & (state.len() == PLACES)
@@ -1114,7 +1116,16 @@ impl Numbers {
             & (previous.len() == PLACES)
         {
             let k = unopened(scheme, n, history);
-            return open_over(k, time, relative, absolute, state, derivative, previous, figures);
+            return open_over(
+                k,
+                time,
+                relative,
+                absolute,
+                state,
+                derivative,
+                previous,
+                figures,
+            );
         }
         refused(no_numbers(), 1)
     }
@@ -1129,8 +1140,8 @@ impl Numbers {
         out: &mut [f64],
     ) -> Left
         ensures { λ r. ⌜ fills r (now (figures .exit)) (now (out .exit)) ≡ lentFill
-        (eqb (length (now (figures .entry))) FIGURES && eqb (length (now (jacobian .entry))) jacobianRoom)
-        self (now (figures .entry)) (now (out .entry)) (λ s o. beginCall s «step» wish (now (jacobian .entry)) o) ⌝ }
+            (eqb (length (now (figures .entry))) FIGURES && eqb (length (now (jacobian .entry))) jacobianRoom)
+            self (now (figures .entry)) (now (out .entry)) (λ s o. beginCall s «step» wish (now (jacobian .entry)) o) ⌝ }
     {
         if (figures.len() == FIGURES) & (jacobian.len() == JACOBIAN) {
             return begin_over(self, figures, step, wish, jacobian, out);
@@ -1141,8 +1152,8 @@ impl Numbers {
     // Supplies the derivative that was asked for: the next question, or the candidate, fills `out`.
     pub fn supply(self, figures: &mut [f64], answer: &[f64], out: &mut [f64]) -> Left
         ensures { λ r. ⌜ fills r (now (figures .exit)) (now (out .exit)) ≡ lentFill
-        (eqb (length (now (figures .entry))) FIGURES && eqb (length (now (answer .entry))) places)
-        self (now (figures .entry)) (now (out .entry)) (λ s o. supplyCall s (now (answer .entry)) o) ⌝ }
+            (eqb (length (now (figures .entry))) FIGURES && eqb (length (now (answer .entry))) places)
+            self (now (figures .entry)) (now (out .entry)) (λ s o. supplyCall s (now (answer .entry)) o) ⌝ }
     {
         if (figures.len() == FIGURES) & (answer.len() == PLACES) {
             return supply_over(self, figures, answer, out);
@@ -1153,8 +1164,8 @@ impl Numbers {
     // Accepts the candidate, with the derivative there.
     pub fn accept(self, figures: &mut [f64], derivative: &[f64]) -> Left
         ensures { λ r. ⌜ remains r (now (figures .exit)) ≡ lentCall
-        (eqb (length (now (figures .entry))) FIGURES && eqb (length (now (derivative .entry))) places)
-        self (now (figures .entry)) (λ s. acceptCall s (now (derivative .entry))) ⌝ }
+            (eqb (length (now (figures .entry))) FIGURES && eqb (length (now (derivative .entry))) places)
+            self (now (figures .entry)) (λ s. acceptCall s (now (derivative .entry))) ⌝ }
     {
         if (figures.len() == FIGURES) & (derivative.len() == PLACES) {
             return accept_over(self, figures, derivative);
@@ -1203,21 +1214,8 @@ impl Session {
     pub fn figures(self) -> [f64; FIGURES]
         ensures { λ r. ⌜ (r ≡ figuresOf self) × (sessionOf (numbersOf self) r ≡ self) ⌝ }
     {
-        let state = self.state;
-        let derivative = self.derivative;
-        let previous = self.previous;
-        let jacobian = self.jacobian;
-        let answers = self.answers;
         let mut figures = [0.0; FIGURES];
-        figures[TIME_AT] = self.time;
-        figures[STEP_AT] = self.step;
-        figures[RELATIVE_AT] = self.relative;
-        figures[ABSOLUTE_AT] = self.absolute;
-        figures::put(&state, &mut figures, STATE_AT);
-        figures::put(&derivative, &mut figures, DERIVATIVE_AT);
-        figures::put(&previous, &mut figures, PREVIOUS_AT);
-        figures::put(&jacobian, &mut figures, JACOBIAN_AT);
-        figures::put(&answers, &mut figures, ANSWERS_AT);
+        figures::put_session(self, &mut figures);
         figures
     }
 
@@ -1309,7 +1307,14 @@ impl Session {
         ensures { λ r. ⌜ outcome r (now (out .exit)) ≡ beginCall self step wish jacobian (now (out .entry)) ⌝ }
     {
         let mut figures = self.figures();
-        let left = begin_over(self.numbers(), &mut figures, step, wish, &jacobian, &mut *out);
+        let left = begin_over(
+            self.numbers(),
+            &mut figures,
+            step,
+            wish,
+            &jacobian,
+            &mut *out,
+        );
         given_back(left, figures)
     }
 
@@ -1468,7 +1473,12 @@ pub fn error_norm(
     let k = norm_fault(n, relative, absolute, error, state, candidate);
     if k == 0 {
         return Answer::Norm(engine::scaled_error_norm(
-            n, relative, absolute, &state, &candidate, &error,
+            n,
+            relative,
+            absolute,
+            &state,
+            &candidate,
+            &error,
         ));
     }
     Answer::Refused(k)

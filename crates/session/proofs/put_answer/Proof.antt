@@ -30,6 +30,7 @@ put-answer-spec =
     (λ c. search needs)
     (λ c.
     let c2 = c .before .before in
-    let c6 = c2 .before .before .before .before in
-    (put-answer-is (c6 .args .k) (c6 .args .figures .now) (c6 .pre .0 .0) (c6 .args .answer .now) (c6 .pre .1) (c6 .pre .0 .1) _ (c2 .put .ensures),
-    c2 .put .ensures ∙ ap (λ (n : ℕ). stores (λ i _. c6 .args .answer .now ! i) (answersAt + places * c6 .args .k .count) n (c6 .args .figures .now)) (c6 .pre .0 .1))))
+    let c6 = c2 .before .before .before .before in (
+      put-answer-is (c6 .args .k) (c6 .args .figures .now) (c6 .pre .0 .0) (c6 .args .answer .now) (c6 .pre .1) (c6 .pre .0 .1) _ (c2 .put .ensures),
+      c2 .put .ensures ∙ ap (λ (n : ℕ). stores (λ i _. c6 .args .answer .now ! i) (answersAt + places * c6 .args .k .count) n (c6 .args .figures .now)) (c6 .pre .0 .1),
+    )))

@@ -1,5 +1,12 @@
 -- `session::Numbers::open` meets its contract. Assumes nothing.
 use borrow.Author.Needs.{needs}
+use mathlib.Core.Path.{refl, ap, _∙_}
+use native.Mathlib.Omega.{arith}
+use lib.ListN.{length}
+use Rattle.evaluation.specs.Sizes.{places}
+use Rattle.session.specs.declared.Numbers.{Numbers}
+use Rattle.session.specs.Figures.{FIGURES}
+use Rattle.session.proofs.Bodies.{lent-opened, lent-unopened, four-long}
 use Rattle.session.proofs.Numbers.open.Statement.{statement}
 use Rattle.session.proofs.Numbers.open.Tie as tie
 
@@ -8,8 +15,23 @@ open-spec =
     tie.close
     (tie.spec
     (λ c κs. search needs)
+    (λ c κs.
+    let c1 = c .before in
+    let c2 = c1 .before in
+    let c6 = c2 .before .before .before .before in
+    let c7 = c6 .before in
+    (four-long (length (c7 .args .figures .now)) (length (c7 .args .state .now)) (length (c7 .args .derivative .now)) (length (c7 .args .previous .now)) FIGURES places (c2 .if1 .taken) .0, (four-long (length (c7 .args .figures .now)) (length (c7 .args .state .now)) (length (c7 .args .derivative .now)) (length (c7 .args .previous .now)) FIGURES places (c2 .if1 .taken) .1, (ap (λ (k : Numbers). k .attempt) (c1 .unopened .ensures), ap (λ (k : Numbers). k .count) (c1 .unopened .ensures)))))
     (λ c. search needs)
-    (λ c. ?)
+    (λ c.
+    let c2 = c .before .before in
+    let c4 = c2 .before .before in
+    let c5 = c4 .before in
+    let c9 = c5 .before .before .before .before in
+    let c10 = c9 .before in
+    lent-opened (c4 .unopened .result) _ (c5 .if1 .taken) _ (omega (arith, c2 .open-over .kept, four-long (length (c10 .args .figures .now)) (length (c10 .args .state .now)) (length (c10 .args .derivative .now)) (length (c10 .args .previous .now)) FIGURES places (c5 .if1 .taken) .0)) _ (rw (c4 .unopened .ensures) at (c2 .open-over .ensures)))
     (λ c κs. search needs)
     (λ c κs. search needs)
-    (λ c. ?))
+    (λ c.
+    let c1 = c .before in
+    let c2 = c1 .before in
+    lent-unopened _ _ (c2 .if1 .left) _ (c1 .no-numbers .ensures) (c .refused .ensures)))

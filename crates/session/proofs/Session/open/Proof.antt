@@ -1,5 +1,25 @@
+-- `session::Session::open` meets its contract. Assumes nothing.
+use borrow.Author.Needs.{needs}
+use mathlib.Core.Path.{ap, _∙_}
+use Rattle.session.specs.declared.Numbers.{Numbers}
 use Rattle.session.proofs.Session.open.Statement.{statement}
 use Rattle.session.proofs.Session.open.Tie as tie
 
 pub open-spec : {M : Type 1} → statement M
-open-spec = ?
+open-spec =
+    tie.close
+    (tie.spec
+    (λ c κs. search needs)
+    (λ c. search needs)
+    (λ c. search needs)
+    (λ c. search needs)
+    (λ c. search needs)
+    (λ c κs.
+    let c4 = c .before .before .before .before in
+    (search needs, ((search needs, search needs, search needs), (ap (λ (k : Numbers). k .attempt) (c4 .unopened .ensures), ap (λ (k : Numbers). k .count) (c4 .unopened .ensures)))))
+    (λ c κs. search needs)
+    (λ c.
+    let c2 = c .before .before in
+    let c6 = c2 .before .before .before .before in
+    let c7 = c6 .before in
+    c .given-back .ensures ∙ (rw (c7 .unopened .ensures) at (c2 .open-over .ensures))))
