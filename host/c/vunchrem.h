@@ -4,8 +4,8 @@
  * nothing of the numbers. A slice is a pointer and a length; the pointer is not NULL, and no two slices of one call overlap.
  *
  * Each function returns 0 where the call was made, and 1 where a length is another than its own; then nothing is touched. What the call tells
- * stands in words[4] and told[1], see vunchrem_reply. A refused call writes neither the session nor the output that it was lent. A refused open
- * overwrites the session that it was handed, by one that any call refuses by 1. */
+ * stands in words[4] and told[1], see vunchrem_reply. A call works on the session where it stands; a refused one leaves it, and the output that it
+ * was lent, as they were. A refused open overwrites the session that it was handed, by one that any call refuses by 1. */
 #ifndef VUNCHREM_H
 #define VUNCHREM_H
 
