@@ -362,7 +362,7 @@ fn put_image(numbers: &[u64], figures: &[f64], b: &mut [u8])
 
 fn show_call(s: Session) -> Next {
     let mut numbers = [0u64; image::NUMBERS];
-    image::put_numbers(s.numbers(), &mut numbers);
+    image::put_numbers(s.head(), &mut numbers);
     let figures = s.figures();
     let mut b = [0u8; IMAGE];
     put_image(&numbers, &figures, &mut b);
@@ -379,7 +379,7 @@ fn loaded(b: &[u8]) -> Session
     }
     let mut figures = [0.0; image::FIGURES];
     doubles(b, image::NUMBERS, &mut figures);
-    let k = image::numbers_in(&numbers);
+    let k = image::head_in(&numbers);
     Session::of(k, figures)
 }
 

@@ -10,15 +10,15 @@ use lib.Seq.{ext-getD}
 use Rattle.loops.specs.Loop.{tab, from}
 use Rattle.loops.proofs.Loops.{length-tab, getD-tab}
 use Rattle.session.specs.declared.Session.{Session}
-use Rattle.session.specs.declared.Numbers.{Numbers}
+use Rattle.session.specs.declared.Head.{Head}
 use Rattle.session.specs.declared.History.{History}
 use Rattle.session.specs.declared.History.the-variants.{Missing, Held}
 use Rattle.session.specs.declared.Attempt.{Attempt}
 use Rattle.session.specs.declared.Attempt.the-variants.{None, Supplied, Differenced}
 use Rattle.session.specs.Claims.{Typed}
-use Rattle.session.specs.Figures.{sessionOf, numbersOf}
+use Rattle.session.specs.Figures.{sessionOf, headOf}
 use Rattle.session.proofs.Inverse.{session-back, figures-back}
-use Rattle.image.specs.Image.{NUMBERS, schemeOf, historyOf, attemptOf, historyNumber, attemptNumber, numbersIn, unpacked, packed, packedNumbers, packedFigures, Holds, Inverse}
+use Rattle.image.specs.Image.{NUMBERS, schemeOf, historyOf, attemptOf, historyNumber, attemptNumber, headIn, unpacked, packed, packedNumbers, packedFigures, Holds, Inverse}
 
 -- ---- numbers
 
@@ -52,13 +52,13 @@ attempt-back (suc (suc (suc x))) h = absurd (omega (arith, h))
 
 -- ---- a session, packed and unpacked
 
-numbers-kept : (s : Session) → s .scheme < 256 → numbersIn (packedNumbers s) ≡ numbersOf s
-unfolding numbersIn packed
+numbers-kept : (s : Session) → s .scheme < 256 → headIn (packedNumbers s) ≡ headOf s
+unfolding headIn packed
 numbers-kept s h = rw (scheme-kept (s .scheme) h, history-kept (s .history), attempt-kept (s .attempt))
 
 unpack-pack : (s : Session) → Typed s → unpacked (packedNumbers s) (packedFigures s) ≡ s
 unpack-pack s t =
-    ap (λ (k : Numbers). sessionOf k (packedFigures s)) (numbers-kept s (t .scheme))
+    ap (λ (k : Head). sessionOf k (packedFigures s)) (numbers-kept s (t .scheme))
     ∙ session-back s (record {
       state = t .state .places;
       derivative = t .derivative .places;
@@ -72,9 +72,9 @@ pub spelt : {A : Type 0} (d : A) (n : ℕ) (l : List A) → length l ≡ n → l
 spelt d n l h = ext-getD d l (tab n (λ i. getD l i d)) (h ∙ sym (length-tab n _)) (λ i k. sym (getD-tab d n (λ i. getD l i d) i (omega arith)))
 
 numbers-back : (l : List ℕ) (f : List Float) → Holds l f → packedNumbers (unpacked l f) ≡ l
-unfolding packed numbersIn sessionOf tab from
+unfolding packed headIn sessionOf tab from
 numbers-back l f h =
     rw (scheme-kept _ (h .scheme), history-back _ (h .history), attempt-back _ (h .attempt)) (sym (spelt 0 NUMBERS l (h .numbers)))
 
 pub inverse : Inverse
-inverse = record { unpackPack = unpack-pack; packUnpackNumbers = numbers-back; packUnpackFigures = λ l f h. figures-back (numbersIn l) f (h .figures) }
+inverse = record { unpackPack = unpack-pack; packUnpackNumbers = numbers-back; packUnpackFigures = λ l f h. figures-back (headIn l) f (h .figures) }

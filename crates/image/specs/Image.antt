@@ -1,4 +1,4 @@
--- A session's image: the numbers, as words, and the figures that it crosses to other programs as, and what is told of an answer. Definitions only.
+-- A session's image: its head, as words, and the figures that it crosses to other programs as, and what is told of an answer. Definitions only.
 use Prim.Native.Nat.{ℕ, _+_, _*_, _≤_, _<_}
 use mathlib.Core.Path.{_≡_}
 use mathlib.Core.Bool.{cond}
@@ -9,12 +9,12 @@ use lib.ListN.{length, getD}
 use Rattle.image.specs.declared.Reply.{Reply}
 use Rattle.session.specs.Values.{Values}
 use Rattle.session.specs.declared.Session.{Session}
-use Rattle.session.specs.declared.Numbers.{Numbers}
+use Rattle.session.specs.declared.Head.{Head}
 use Rattle.session.specs.declared.History.{History}
 use Rattle.session.specs.declared.History.the-variants.{Missing, Held}
 use Rattle.evaluation.specs.Sizes.{places, answerRoom}
 use Rattle.session.specs.Session.{jacobianRoom}
-use Rattle.session.specs.Figures.{FIGURES, sessionOf, numbersOf, figuresOf}
+use Rattle.session.specs.Figures.{FIGURES, sessionOf, headOf, figuresOf}
 use Rattle.session.specs.Claims.{Typed}
 use Rattle.session.specs.declared.Attempt.{Attempt}
 use Rattle.session.specs.declared.Attempt.the-variants.{None, Supplied, Differenced}
@@ -93,11 +93,11 @@ attemptNumber None = 0
 attemptNumber Supplied = 1
 attemptNumber Differenced = 2
 
--- ---- a session as numbers and figures
+-- ---- a session as words and figures
 
--- the numbers that words hold
-unfoldable pub numbersIn : List ℕ → Numbers
-numbersIn words = record {
+-- the head that words hold
+unfoldable pub headIn : List ℕ → Head
+headIn words = record {
   scheme = schemeOf (getD words schemeAt 0);
   n = getD words nAt 0;
   history = historyOf (getD words historyAt 0);
@@ -107,14 +107,14 @@ numbersIn words = record {
 
 -- the session that words and figures hold
 abbrev pub unpacked : List ℕ → List Float → Session
-unpacked words figures = sessionOf (numbersIn words) figures
+unpacked words figures = sessionOf (headIn words) figures
 
--- numbers as words
-unfoldable pub packed : Numbers → List ℕ
+-- a head as words
+unfoldable pub packed : Head → List ℕ
 packed k = k .scheme ∷ k .n ∷ historyNumber (k .history) ∷ attemptNumber (k .attempt) ∷ k .count ∷ []
 
 abbrev pub packedNumbers : Session → List ℕ
-packedNumbers s = packed (numbersOf s)
+packedNumbers s = packed (headOf s)
 
 abbrev pub packedFigures : Session → List Float
 packedFigures s = figuresOf s

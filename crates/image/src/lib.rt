@@ -6,12 +6,12 @@
 ghost use mathlib.Core.Path.{_≡_};
 ghost use lib.ListN.{length};
 ghost use Rattle.image.specs.Image.{VECTOR, NUMBERS};
-ghost use Rattle.image.specs.Image.{schemeOf, historyOf, attemptOf, wishOf, historyNumber, attemptNumber, numbersIn, packed, fields};
+ghost use Rattle.image.specs.Image.{schemeOf, historyOf, attemptOf, wishOf, historyNumber, attemptNumber, headIn, packed, fields};
 ghost use Rattle.session.specs.Values.{figured, valuesOf};
 use session::Answer;
 use session::Attempt;
+use session::Head;
 use session::History;
-use session::Numbers;
 use session::Wish;
 
 // ---- how many there are, and where each field stands: behind the one before it
@@ -162,19 +162,19 @@ pub fn vector_of(x: &[f64]) -> [f64; VECTOR]
     session::figures::vector_at(x, 0)
 }
 
-// ---- numbers as words
+// ---- a head as words
 
-// The numbers that the words hold.
-pub fn numbers_in(words: &[u64]) -> Numbers
+// The head that the words hold.
+pub fn head_in(words: &[u64]) -> Head
     requires { ⌜ length (now words) ≡ NUMBERS ⌝ }
-    ensures { λ r. ⌜ r ≡ numbersIn (now (words .entry)) ⌝ }
+    ensures { λ r. ⌜ r ≡ headIn (now (words .entry)) ⌝ }
 {
     let scheme = scheme_of(words[SCHEME_AT]);
     let n = words[N_AT] as usize;
     let history = history_of(words[HISTORY_AT]);
     let attempt = attempt_of(words[ATTEMPT_AT]);
     let count = words[COUNT_AT] as usize;
-    Numbers {
+    Head {
         scheme,
         n,
         history,
@@ -183,8 +183,8 @@ pub fn numbers_in(words: &[u64]) -> Numbers
     }
 }
 
-// Numbers into the words.
-pub fn put_numbers(k: Numbers, words: &mut [u64])
+// A head into the words.
+pub fn put_numbers(k: Head, words: &mut [u64])
     requires { ⌜ length (now words) ≡ NUMBERS ⌝ }
     ensures { λ _. ⌜ now (words .exit) ≡ packed k ⌝ }
 {

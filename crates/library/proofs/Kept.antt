@@ -6,7 +6,7 @@ use mathlib.Core.List.{List}
 use lib.Ieee.{Float}
 use lib.ListN.{length}
 use Rattle.session.specs.declared.Session.{Session}
-use Rattle.session.specs.declared.Numbers.{Numbers}
+use Rattle.session.specs.declared.Head.{Head}
 use Rattle.session.specs.declared.Left.{Left}
 use Rattle.session.specs.declared.Told.{Told}
 use Rattle.session.specs.Values.{isRefused}
@@ -16,11 +16,11 @@ use Rattle.session.specs.Figures.{FIGURES, sessionOf, figuresOf}
 use Rattle.session.specs.Lent.{Remains, remains, Fills, fills, left, lentCall, lentFill, lentOpen}
 use Rattle.session.proofs.Kept.{Same}
 use Rattle.session.proofs.Inverse.{figures-back}
-use Rattle.image.specs.Image.{numbersIn, packed, unpacked}
+use Rattle.image.specs.Image.{headIn, packed, unpacked}
 use Rattle.library.specs.Library.{Room, Said, Opened, Back, BackLent}
 
 -- a refused call leaves the figures, whatever it would have made of them
-figures-kept : (t : Told) (k : Numbers) (x : List Float) → length x ≡ FIGURES → Same (sessionOf k x) t → figuresOf (t .session) ≡ cond (isRefused (t .answer)) x (figuresOf (t .session))
+figures-kept : (t : Told) (k : Head) (x : List Float) → length x ≡ FIGURES → Same (sessionOf k x) t → figuresOf (t .session) ≡ cond (isRefused (t .answer)) x (figuresOf (t .session))
 figures-kept t k x long same = go (isRefused (t .answer)) same
   where
     go : (b : Bool) → (b ≡ true → t .session ≡ sessionOf k x) → figuresOf (t .session) ≡ cond b x (figuresOf (t .session))
@@ -28,8 +28,8 @@ figures-kept t k x long same = go (isRefused (t .answer)) same
     go false f = refl
 
 module _ (n : List ℕ) (x : List Float) (before : Room) (long : length x ≡ FIGURES) {fits : Bool} (right : fits ≡ true) {l : Left} {n' : List ℕ} {x' : List Float} {after : Room}
-    (numbers : n' ≡ cond (isRefused (l .answer)) n (packed (l .numbers))) (said : Said (l .answer) after) where
-  pub lent-back : (call : Session → Told) → remains l x' ≡ lentCall fits (numbersIn n) x call → Same (unpacked n x) (call (unpacked n x))
+    (numbers : n' ≡ cond (isRefused (l .answer)) n (packed (l .head))) (said : Said (l .answer) after) where
+  pub lent-back : (call : Session → Told) → remains l x' ≡ lentCall fits (headIn n) x call → Same (unpacked n x) (call (unpacked n x))
       → Back (call (unpacked n x)) (record { numbers = n; figures = x; reply = before }) (record { numbers = n'; figures = x'; reply = after })
   unfolding lentCall left
   lent-back call e same =
@@ -38,11 +38,11 @@ module _ (n : List ℕ) (x : List Float) (before : Room) (long : length x ≡ FI
       let stays : x' ≡ figuresOf (call (unpacked n x) .session) = ap (λ (r : Remains). r .figures) made in
       record {
         numbers = rw is at numbers;
-        figures = stays ∙ figures-kept (call (unpacked n x)) (numbersIn n) x long same;
+        figures = stays ∙ figures-kept (call (unpacked n x)) (headIn n) x long same;
         said = rw is at said;
       }
 
-  pub lent-back-out : (call : Session → List Float → Outcome) (out : List Float) {out' : List Float} → fills l x' out' ≡ lentFill fits (numbersIn n) x out call
+  pub lent-back-out : (call : Session → List Float → Outcome) (out : List Float) {out' : List Float} → fills l x' out' ≡ lentFill fits (headIn n) x out call
       → Same (unpacked n x) (call (unpacked n x) out .told)
       → BackLent (call (unpacked n x) out) (record { numbers = n; figures = x; reply = before }) (record { numbers = n'; figures = x'; reply = after }) out'
   unfolding lentFill left
@@ -54,7 +54,7 @@ module _ (n : List ℕ) (x : List Float) (before : Room) (long : length x ≡ FI
       record {
         back = record {
           numbers = rw is at numbers;
-          figures = stays ∙ figures-kept (call (unpacked n x) out .told) (numbersIn n) x long same;
+          figures = stays ∙ figures-kept (call (unpacked n x) out .told) (headIn n) x long same;
           said = rw is at said;
         };
         out = ap (λ (f : Fills). f .out) made;
@@ -62,7 +62,7 @@ module _ (n : List ℕ) (x : List Float) (before : Room) (long : length x ≡ FI
 
 -- an open leaves the session that it gives, that of a refused open too
 pub lent-open : (x : List Float) {fits : Bool} → fits ≡ true → (r : Run) {l : Left} {n' : List ℕ} {x' : List Float} {after : Room} → remains l x' ≡ lentOpen fits x r
-    → n' ≡ packed (l .numbers) → Said (l .answer) after → Opened (openCall r) (record { numbers = n'; figures = x'; reply = after })
+    → n' ≡ packed (l .head) → Said (l .answer) after → Opened (openCall r) (record { numbers = n'; figures = x'; reply = after })
 unfolding lentOpen left
 lent-open x right r {l} {n'} {x'} e numbers said =
     let made : remains l x' ≡ remains (left (openCall r)) (figuresOf (openCall r .session)) = rw right at e in

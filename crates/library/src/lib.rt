@@ -18,8 +18,8 @@ ghost use Rattle.session.specs.Calls.{openCall, beginCall, supplyCall, acceptCa
 ghost use Rattle.session.specs.Bare.{exponentialCall, phiCall, normCall};
 ghost use Rattle.session.specs.Values.{isRefused};
 use session::Answer;
+use session::Head;
 use session::Left;
-use session::Numbers;
 
 // ---- lengths
 
@@ -70,11 +70,11 @@ fn say(answer: Answer, words: &mut [u64], told: &mut [f64]) -> bool
 // What a call told, and the numbers of the session that it left, unless it was refused.
 fn give_back(left: Left, numbers: &mut [u64], words: &mut [u64], told: &mut [f64])
     requires { ⌜ (length (now numbers) ≡ NUMBERS) × Hears (room (now words) (now told)) ⌝ }
-    ensures { λ _. ⌜ (now (numbers .exit) ≡ cond (isRefused (left .answer)) (now (numbers .entry)) (packed (left .numbers)))
+    ensures { λ _. ⌜ (now (numbers .exit) ≡ cond (isRefused (left .answer)) (now (numbers .entry)) (packed (left .head)))
         × Said (left .answer) (room (now (words .exit)) (now (told .exit))) ⌝ }
 {
     let answer = left.answer;
-    let k = left.numbers;
+    let k = left.head;
     if say(answer, words, told) {
         return;
     }
@@ -116,7 +116,7 @@ pub extern "C" fn vunchrem_open(
         (slices (now (numbers .exit)) (now (figures .exit)) (now (words .exit)) (now (told .exit))) ⌝ }
 {
     if three(state, derivative, previous) & lent(&*numbers, &*figures, &*words, &*told) {
-        let left = Numbers::open(
+        let left = Head::open(
             image::scheme_of(scheme),
             n as usize,
             time,
@@ -129,7 +129,7 @@ pub extern "C" fn vunchrem_open(
             figures,
         );
         let answer = left.answer;
-        let k = left.numbers;
+        let k = left.head;
         say(answer, words, told);
         image::put_numbers(k, numbers);
         return 0;
@@ -156,7 +156,7 @@ pub extern "C" fn vunchrem_begin(
         (now (out .entry)) (now (out .exit)) ⌝ }
 {
     if sized(jacobian, image::MATRIX) & lent(&*numbers, &*figures, &*words, &*told) {
-        let k = image::numbers_in(&*numbers);
+        let k = image::head_in(&*numbers);
         let left = k.begin(figures, step, image::wish_of(wish), jacobian, out);
         give_back(left, numbers, words, told);
         return 0;
@@ -181,7 +181,7 @@ pub extern "C" fn vunchrem_supply(
         (now (out .entry)) (now (out .exit)) ⌝ }
 {
     if sized(answer, image::VECTOR) & lent(&*numbers, &*figures, &*words, &*told) {
-        let k = image::numbers_in(&*numbers);
+        let k = image::head_in(&*numbers);
         let left = k.supply(figures, answer, out);
         give_back(left, numbers, words, told);
         return 0;
@@ -204,7 +204,7 @@ pub extern "C" fn vunchrem_accept(
         (slices (now (numbers .exit)) (now (figures .exit)) (now (words .exit)) (now (told .exit))) ⌝ }
 {
     if sized(derivative, image::VECTOR) & lent(&*numbers, &*figures, &*words, &*told) {
-        let k = image::numbers_in(&*numbers);
+        let k = image::head_in(&*numbers);
         let left = k.accept(figures, derivative);
         give_back(left, numbers, words, told);
         return 0;
@@ -225,7 +225,7 @@ pub extern "C" fn vunchrem_drop(
         (slices (now (numbers .exit)) (now (figures .exit)) (now (words .exit)) (now (told .exit))) ⌝ }
 {
     if lent(&*numbers, &*figures, &*words, &*told) {
-        let k = image::numbers_in(&*numbers);
+        let k = image::head_in(&*numbers);
         let left = k.drop(figures);
         give_back(left, numbers, words, told);
         return 0;
@@ -247,7 +247,7 @@ pub extern "C" fn vunchrem_first_step(
         (room (now (words .exit)) (now (told .exit))) ⌝ }
 {
     if lent(numbers, figures, &*words, &*told) {
-        let k = image::numbers_in(numbers);
+        let k = image::head_in(numbers);
         say(k.first_step(figures, largest), words, told);
         return 0;
     }

@@ -9,7 +9,7 @@ use lib.Seq.{length-take-le, take-take}
 use Rattle.loops.specs.Loop.{stores, _!_}
 use Rattle.loops.proofs.Stores.{stores-in, length-stores}
 use Rattle.evaluation.specs.Sizes.{places, answerRoom}
-use Rattle.session.specs.declared.Numbers.{Numbers}
+use Rattle.session.specs.declared.Head.{Head}
 use Rattle.session.specs.Figures.{FIGURES, stateAt, derivativeAt, jacobianAt, answersAt, sessionOf}
 use Rattle.session.proofs.Laws.{area}
 use Rattle.session.proofs.Parts.{is-part, slice-part, jacobian-slice}
@@ -23,7 +23,7 @@ pub lent-lengths : (x : List Float) → length x ≡ FIGURES
 lent-lengths x e = (lent-length x e stateAt places (omega arith), lent-length x e derivativeAt places (omega arith), lent-length x e answersAt answerRoom (omega arith))
 
 -- the Jacobian's n * n entries, lent from its place up to their end
-module _ (k : Numbers) (x : List Float) (e : length x ≡ FIGURES) (h : k .n ≤ places) where
+module _ (k : Head) (x : List Float) (e : length x ≡ FIGURES) (h : k .n ≤ places) where
   entries : jacobianAt + k .n * k .n - jacobianAt ≡ k .n * k .n
   entries = omega arith
 

@@ -11,7 +11,7 @@ use borrow.Author.Tests.{eqb-true}
 use Rattle.loops.proofs.Bools.{both-true}
 use Rattle.evaluation.specs.Sizes.{answersKept}
 use Rattle.session.specs.declared.Session.{Session}
-use Rattle.session.specs.declared.Numbers.{Numbers}
+use Rattle.session.specs.declared.Head.{Head}
 use Rattle.session.specs.declared.Left.{Left}
 use Rattle.session.specs.declared.Told.{Told}
 use Rattle.session.specs.declared.Answer.{Answer}
@@ -25,7 +25,7 @@ use Rattle.session.specs.Tests.{fault, condition, unless}
 use Rattle.session.specs.Session.{Run, Sound, clear, usedJacobian, admits, good7, sessionTests, progress}
 use Rattle.session.specs.Claims.{Typed, Closed}
 use Rattle.session.specs.Calls.{Outcome, outcome, tell, refuse, refuseLent, opened, nothing, openCall, begun, rested, answered, shown, attemptOf, attemptTests, beginTests, supplyTests, beginCall, supplyCall}
-use Rattle.session.specs.Figures.{FIGURES, sessionOf, numbersOf, figuresOf}
+use Rattle.session.specs.Figures.{FIGURES, sessionOf, headOf, figuresOf}
 use Rattle.session.specs.Lent.{toldBy, refusedBy, Remains, remains, left, fills, lentCall, lentOpen, lentFill}
 use Rattle.session.proofs.Tests.{unless-refused}
 use Rattle.session.proofs.Laws.{fault-none, wants-more, few-answers, begin-passes, begin-length, supply-passes, vector-length, attempt-row, begun-sound, answered-sound}
@@ -40,7 +40,7 @@ module _ (s : Session) (step : Float) (w : Wish) (j out : List Float) {a : Attem
   e : k ≡ fault (beginTests s step (attemptOf w) j (length out))
   e = given ∙ ap (λ (b : Attempt). fault (beginTests s step b j (length out))) wish
 
-  pub begin-refused : (k ≡ 0 → ⊥) → {l : Left} (x : List Float) (n : Numbers) → l ≡ refusedBy n k → sessionOf n x ≡ s
+  pub begin-refused : (k ≡ 0 → ⊥) → {l : Left} (x : List Float) (n : Head) → l ≡ refusedBy n k → sessionOf n x ≡ s
       → outcome (toldBy l x) out ≡ beginCall s step w j out
   unfolding beginCall
   begin-refused h x n f g = rw (f, g, ← e) (unless-refused k (refuseLent s out) _ h)
@@ -84,7 +84,7 @@ module _ (s : Session) (step : Float) (w : Wish) (j out : List Float) {a : Attem
             rw (← e, z, ← same) f
 
         -- 6: at rest again, as it was
-        pub begin-six : ok ≡ false → Typed s → {l : Left} (x : List Float) (n : Numbers) → l ≡ refusedBy n 6 → sessionOf n x ≡ rested next
+        pub begin-six : ok ≡ false → Typed s → {l : Left} (x : List Float) (n : Head) → l ≡ refusedBy n 6 → sessionOf n x ≡ rested next
             → outcome (toldBy l x) out' ≡ beginCall s step w j out
         unfolding beginCall unless
         begin-six t typed x n g d =
@@ -96,7 +96,7 @@ module _ (s : Session) (step : Float) (w : Wish) (j out : List Float) {a : Attem
 -- ---- supply
 
 module _ (s : Session) (x out : List Float) {k : ℕ} (e : k ≡ fault (supplyTests s x (length out))) where
-  pub supply-refused : (k ≡ 0 → ⊥) → {l : Left} (y : List Float) (n : Numbers) → l ≡ refusedBy n k → sessionOf n y ≡ s → outcome (toldBy l y) out ≡ supplyCall s x out
+  pub supply-refused : (k ≡ 0 → ⊥) → {l : Left} (y : List Float) (n : Head) → l ≡ refusedBy n k → sessionOf n y ≡ s → outcome (toldBy l y) out ≡ supplyCall s x out
   unfolding supplyCall
   supply-refused h y n f g = rw (f, g, ← e) (unless-refused k (refuseLent s out) _ h)
 
@@ -122,7 +122,7 @@ module _ (s : Session) (x out : List Float) {k : ℕ} (e : k ≡ fault (supplyTe
             let f : outcome (tell answer next) out' ≡ shown s next out (progress next) = rw t at (sh s) in
             rw (← e, z, ← same) f
 
-        pub supply-six : ok ≡ false → {l : Left} (y : List Float) (n : Numbers) → l ≡ refusedBy n 6 → sessionOf n y ≡ s → outcome (toldBy l y) out' ≡ supplyCall s x out
+        pub supply-six : ok ≡ false → {l : Left} (y : List Float) (n : Head) → l ≡ refusedBy n 6 → sessionOf n y ≡ s → outcome (toldBy l y) out' ≡ supplyCall s x out
         unfolding supplyCall unless
         supply-six t y n g d =
             let f : outcome (refuse s 6) out' ≡ shown s next out (progress next) = rw t at (sh s) in
@@ -131,10 +131,10 @@ module _ (s : Session) (x out : List Float) {k : ℕ} (e : k ≡ fault (supplyTe
 -- ---- what the calls over lent slices leave
 
 -- where every length is right
-module _ (k : Numbers) (x : List Float) {fits : Bool} (right : fits ≡ true) {l : Left} (y : List Float) (long : length y ≡ FIGURES) where
+module _ (k : Head) (x : List Float) {fits : Bool} (right : fits ≡ true) {l : Left} (y : List Float) (long : length y ≡ FIGURES) where
   home : remains (left (toldBy l y)) (figuresOf (toldBy l y .session)) ≡ remains l y
   unfolding left
-  home = ap (remains (left (toldBy l y))) (figures-back (l .numbers) y long) ∙ (unfold sessionOf in refl)
+  home = ap (remains (left (toldBy l y))) (figures-back (l .head) y long) ∙ (unfold sessionOf in refl)
 
   pub lent-made : (call : Session → Told) → toldBy l y ≡ call (sessionOf k x) → remains l y ≡ lentCall fits k x call
   unfolding lentCall
@@ -150,7 +150,7 @@ module _ (k : Numbers) (x : List Float) {fits : Bool} (right : fits ≡ true) {l
   lent-opened r e = rw (right, ← e) (sym home)
 
 -- where one is not
-module _ (k : Numbers) (x : List Float) {fits : Bool} (wrong : fits ≡ false) {l : Left} where
+module _ (k : Head) (x : List Float) {fits : Bool} (wrong : fits ≡ false) {l : Left} where
   pub lent-refused : (call : Session → Told) → l ≡ refusedBy k 1 → remains l x ≡ lentCall fits k x call
   unfolding lentCall
   lent-refused call e = rw (wrong, e)
@@ -159,7 +159,7 @@ module _ (k : Numbers) (x : List Float) {fits : Bool} (wrong : fits ≡ false) {
   unfolding lentFill
   lent-unfilled out call e = rw (wrong, e)
 
-  pub lent-unopened : (r : Run) → k ≡ numbersOf nothing → l ≡ refusedBy k 1 → remains l x ≡ lentOpen fits x r
+  pub lent-unopened : (r : Run) → k ≡ headOf nothing → l ≡ refusedBy k 1 → remains l x ≡ lentOpen fits x r
   unfolding lentOpen
   lent-unopened r n e = rw (wrong, e, n)
 

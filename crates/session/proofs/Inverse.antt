@@ -13,10 +13,10 @@ use Rattle.loops.proofs.Loops.{length-tab, getD-tab, tab-at, fill-none, fill-st
 use Rattle.loops.proofs.Stores.{is-tab, stores-suc}
 use Rattle.evaluation.specs.Sizes.{places, answerRoom}
 use Rattle.session.specs.declared.Session.{Session}
-use Rattle.session.specs.declared.Numbers.{Numbers}
+use Rattle.session.specs.declared.Head.{Head}
 use Rattle.session.specs.Session.{jacobianRoom}
 use Rattle.session.specs.Figures.{FIGURES, timeAt, stepAt, relativeAt, absoluteAt, stateAt, derivativeAt, previousAt, jacobianAt, answersAt}
-use Rattle.session.specs.Figures.{part, first, sessionOf, numbersOf, arrays, behind, figuresOf}
+use Rattle.session.specs.Figures.{part, first, sessionOf, headOf, arrays, behind, figuresOf}
 
 -- ---- lists
 
@@ -163,7 +163,7 @@ module _ (s : Session) (t : Long s) where
       found (arrays s) (s .time ∷ s .step ∷ s .relative ∷ s .absolute ∷ []) stateAt refl
       (t .state, (t .derivative, (t .previous, (t .jacobian, (t .answers, tt))))) j
 
-  pub session-back : sessionOf (numbersOf s) (figuresOf s) ≡ s
+  pub session-back : sessionOf (headOf s) (figuresOf s) ≡ s
   unfolding sessionOf figuresOf placeOf sizeOf arrayOf
   session-back = rw (kept 0, kept 1, kept 2, kept 3, kept 4)
 
@@ -181,7 +181,7 @@ restored l b m (suc n) h =
 back : (l : List Float) (b n : ℕ) → stored (part l b n) b n l ≡ l
 back l b n = restored l b n n (omega arith)
 
-pub figures-back : (k : Numbers) (f : List Float) → length f ≡ FIGURES → figuresOf (sessionOf k f) ≡ f
+pub figures-back : (k : Head) (f : List Float) → length f ≡ FIGURES → figuresOf (sessionOf k f) ≡ f
 unfolding sessionOf storedAll
 figures-back k f h =
     sym (all-stored (sessionOf k f) f h)

@@ -14,7 +14,7 @@ use Rattle.session.specs.Tests.{Tests, fault}
 use Rattle.session.specs.Session.{Run, jacobianRoom, fresh, idle, clear, clearAnswers, usedHistory, usedJacobian, stepClear, sizeOk, runPlaces, attemptPlaces}
 use Rattle.session.specs.Session.{good1, good2, good3, good4, good5, good7, admits, positive, sessionTests}
 use Rattle.loops.proofs.Bools.{both-true}
-use Rattle.session.specs.declared.Numbers.{Numbers}
+use Rattle.session.specs.declared.Head.{Head}
 use Rattle.session.specs.declared.Attempt.the-variants.{None}
 use Rattle.session.specs.Figures.{sessionOf}
 use Rattle.session.specs.Calls.{opened}
@@ -86,7 +86,7 @@ each-finite {a} {b} {c} x y z e f g h =
     (sym e ∙ q .0, sym f ∙ q .1, sym g ∙ p .1)
 
 -- the test of 2, from the numbers that the code has
-pub opened-good2 : (k : Numbers) (r : Run) → k .attempt ≡ None → k .count ≡ 0 → k .scheme ≡ r .scheme → k .n ≡ r .n → k .history ≡ r .history
+pub opened-good2 : (k : Head) (r : Run) → k .attempt ≡ None → k .count ≡ 0 → k .scheme ≡ r .scheme → k .n ≡ r .n → k .history ≡ r .history
     → {b : Bool} → b ≡ good2 (sessionOf k []) → b ≡ good2 (opened r)
 unfolding good2 sessionOf opened idle fresh
 opened-good2 k r none zero-count scheme n history e = rw (none, zero-count, scheme, n, history) at e

@@ -20,13 +20,13 @@ use Rattle.float.specs.Arith.{zero+, finite}
 use Rattle.evaluation.specs.Evaluation.{allFinite}
 use Rattle.evaluation.specs.Sizes.{places, answerRoom}
 use Rattle.session.specs.declared.Session.{Session}
-use Rattle.session.specs.declared.Numbers.{Numbers}
+use Rattle.session.specs.declared.Head.{Head}
 use Rattle.session.specs.Session.{jacobianRoom, good3, positive, good4, good5}
 use Rattle.session.specs.Claims.{Doubles, Typed}
 use Rattle.session.specs.Figures.{FIGURES, timeAt, stepAt, relativeAt, absoluteAt, stateAt, derivativeAt, previousAt, jacobianAt, answersAt}
 use Rattle.session.proofs.Blank.{every-split}
 use Rattle.session.specs.Lent.{arraysFinite}
-use Rattle.session.specs.Figures.{part, first, sessionOf, numbersOf, arrays, behind, figuresOf}
+use Rattle.session.specs.Figures.{part, first, sessionOf, headOf, arrays, behind, figuresOf}
 
 -- ---- parts
 
@@ -135,7 +135,7 @@ slice-long x at n h = ap length (slice-part x at n h) ∙ length-part x at n
 -- ---- a session of figures
 
 -- what the code's types give of figures
-pub typed-of : (k : Numbers) (x : List Float) → k .scheme < 256 → Doubles FIGURES x → Typed (sessionOf k x)
+pub typed-of : (k : Head) (x : List Float) → k .scheme < 256 → Doubles FIGURES x → Typed (sessionOf k x)
 unfolding sessionOf fits
 typed-of k x s d = record {
   scheme = s;
@@ -176,7 +176,7 @@ finite-split x at m n =
     ∙ sym (rw (finite-each x at m, finite-each x (at + m) n))
 
 -- the arrays are one stretch
-pub all-arrays : (k : Numbers) (x : List Float) → length x ≡ FIGURES → allFinite (take 624 (drop stateAt x)) ≡ arraysFinite (sessionOf k x)
+pub all-arrays : (k : Head) (x : List Float) → length x ≡ FIGURES → allFinite (take 624 (drop stateAt x)) ≡ arraysFinite (sessionOf k x)
 unfolding sessionOf
 all-arrays k x e =
     ap allFinite (slice-part x stateAt 624 (omega arith))
@@ -190,23 +190,23 @@ after-all : (t a b c d e : Bool) → (t && (a && b && c && d && e)) ≡ (t && a 
 after-all true a b c d e = refl
 after-all false a b c d e = refl
 
-pub time-then : (k : Numbers) (x : List Float) {a b : Bool} → a ≡ finite (x ! timeAt) → b ≡ arraysFinite (sessionOf k x) → (a && b) ≡ good3 (sessionOf k x)
+pub time-then : (k : Head) (x : List Float) {a b : Bool} → a ≡ finite (x ! timeAt) → b ≡ arraysFinite (sessionOf k x) → (a && b) ≡ good3 (sessionOf k x)
 unfolding good3
 time-then k x {a} {b} e f =
     let t : a ≡ finite (sessionOf k x .time) = unfold sessionOf in e in
     rw (t, f) (after-all (finite (sessionOf k x .time)) _ _ _ _ _)
 
 -- the tests of 4 and of 5, from what the code reads
-pub run-tolerances : (k : Numbers) (x : List Float) {b : Bool} → b ≡ (positive (x ! relativeAt) && positive (x ! absoluteAt)) → b ≡ good4 (sessionOf k x)
+pub run-tolerances : (k : Head) (x : List Float) {b : Bool} → b ≡ (positive (x ! relativeAt) && positive (x ! absoluteAt)) → b ≡ good4 (sessionOf k x)
 unfolding good4 sessionOf
 run-tolerances k x e = e
 
-pub attempt-step : (k : Numbers) (x : List Float) {b : Bool} → b ≡ good5 (k .attempt) (x ! stepAt) → b ≡ good5 (sessionOf k x .attempt) (sessionOf k x .step)
+pub attempt-step : (k : Head) (x : List Float) {b : Bool} → b ≡ good5 (k .attempt) (x ! stepAt) → b ≡ good5 (sessionOf k x .attempt) (sessionOf k x .step)
 unfolding sessionOf
 attempt-step k x e = e
 
 -- a part of the arrays is finite where all are
-module _ (k : Numbers) (x : List Float) (e : arraysFinite (sessionOf k x) ≡ true) where
+module _ (k : Head) (x : List Float) (e : arraysFinite (sessionOf k x) ≡ true) where
   finite-1 : (allFinite (sessionOf k x .state) && allFinite (sessionOf k x .derivative) && allFinite (sessionOf k x .previous) && allFinite (sessionOf k x .jacobian)) ≡ true
   finite-1 = both-true _ (allFinite (sessionOf k x .answers)) e .0
 
@@ -233,7 +233,7 @@ module _ (k : Numbers) (x : List Float) (e : arraysFinite (sessionOf k x) ≡ tr
       both-true (allFinite (sessionOf k x .state) && allFinite (sessionOf k x .derivative) && allFinite (sessionOf k x .previous) && allFinite (sessionOf k x .jacobian)) _ e .1
 
 -- each array as a part of the lent figures
-module _ (k : Numbers) (x : List Float) (e : length x ≡ FIGURES) where
+module _ (k : Head) (x : List Float) (e : length x ≡ FIGURES) where
   pub state-slice : take places (drop stateAt x) ≡ sessionOf k x .state
   unfolding sessionOf
   state-slice = slice-part x stateAt places (omega arith)

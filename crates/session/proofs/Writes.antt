@@ -20,7 +20,7 @@ use Rattle.float.specs.Arith.{_⊕_, zero+, plusZero, finite}
 use Rattle.evaluation.specs.Sizes.{places, answersKept, answerRoom}
 use Rattle.methods.specs.Sizes.{etd2Number}
 use Rattle.session.specs.declared.Session.{Session}
-use Rattle.session.specs.declared.Numbers.{Numbers}
+use Rattle.session.specs.declared.Head.{Head}
 use Rattle.session.specs.declared.History.the-variants.{Held}
 use Rattle.session.specs.declared.Attempt.{Attempt}
 use Rattle.session.specs.declared.Attempt.the-variants.{None, Supplied, Differenced}
@@ -34,7 +34,7 @@ use Rattle.session.specs.declared.Left.{Left}
 use Rattle.session.specs.declared.Answer.the-variants.{Resting}
 use Rattle.session.specs.Lent.{toldBy, refusedBy, restingAt}
 use Rattle.session.specs.Calls.{tell, opened, nothing, begun, rested, answered, moved, arrived}
-use Rattle.session.specs.Figures.{FIGURES, timeAt, stepAt, relativeAt, absoluteAt, stateAt, derivativeAt, previousAt, jacobianAt, answersAt, part, sessionOf, numbersOf}
+use Rattle.session.specs.Figures.{FIGURES, timeAt, stepAt, relativeAt, absoluteAt, stateAt, derivativeAt, previousAt, jacobianAt, answersAt, part, sessionOf, headOf}
 use Rattle.session.proofs.Laws.{fault-none, wanted-small, area}
 use Rattle.session.proofs.Clear.{plus-zero-is}
 use Rattle.session.proofs.Blank.{wiped}
@@ -43,7 +43,7 @@ use Rattle.session.proofs.Closed.{passed-good, good-closed}
 use Rattle.session.proofs.Drops.{idle-trial}
 
 -- ---- a session by its fields
-pub by-fields : (k : Numbers) (x : List Float) (s : Session) → k ≡ numbersOf s → x ! timeAt ≡ s .time → x ! stepAt ≡ s .step → x ! relativeAt ≡ s .relative
+pub by-fields : (k : Head) (x : List Float) (s : Session) → k ≡ headOf s → x ! timeAt ≡ s .time → x ! stepAt ≡ s .step → x ! relativeAt ≡ s .relative
     → x ! absoluteAt ≡ s .absolute → part x stateAt places ≡ s .state → part x derivativeAt places ≡ s .derivative → part x previousAt places ≡ s .previous
     → part x jacobianAt jacobianRoom ≡ s .jacobian → part x answersAt answerRoom ≡ s .answers → sessionOf k x ≡ s
 unfolding sessionOf
@@ -120,18 +120,18 @@ all-put used n y e h f =
         ∙ sym (f i (omega arith) m)
 
 -- figures of a session that is not refused are typed
-pub typed-passed : (k : Numbers) (x : List Float) (wants : Wants) → fault (sessionTests wants (sessionOf k x)) ≡ 0 → Doubles FIGURES x → Typed (sessionOf k x)
+pub typed-passed : (k : Head) (x : List Float) (wants : Wants) → fault (sessionTests wants (sessionOf k x)) ≡ 0 → Doubles FIGURES x → Typed (sessionOf k x)
 unfolding sessionOf
 typed-passed k x wants e d = typed-of k x (omega (arith, fault-none wants (sessionOf k x) e .scheme)) d
 
 -- ---- the figures that a call changes
 
-module _ (k : Numbers) (x : List Float) (long : length x ≡ FIGURES) (typed : Typed (sessionOf k x)) where
+module _ (k : Head) (x : List Float) (long : length x ≡ FIGURES) (typed : Typed (sessionOf k x)) where
   abbrev s : Session
   s = sessionOf k x
 
   -- the numbers of a session at rest
-  abbrev pub resting : Numbers
+  abbrev pub resting : Head
   resting = record { scheme = k .scheme; n = k .n; history = k .history; attempt = None; count = 0 }
 
   -- what rest leaves
@@ -220,7 +220,7 @@ module _ (k : Numbers) (x : List Float) (long : length x ≡ FIGURES) (typed : T
 
   module _ (passed : fault (sessionTests (Only Rest) (sessionOf k x)) ≡ 0) (step : Float) (a : Attempt) (j : List Float) (size : Doubles jacobianRoom j)
       (unused : clear (usedJacobian a (k .n)) j ≡ true) where
-    abbrev pub attempting : Numbers
+    abbrev pub attempting : Head
     attempting = record { scheme = k .scheme; n = k .n; history = k .history; attempt = a; count = k .count }
 
     abbrev pub attemptFigures : List Float
@@ -264,7 +264,7 @@ module _ (k : Numbers) (x : List Float) (long : length x ≡ FIGURES) (typed : T
         ∙ set-part-after stepAt step x answersAt answerRoom (omega arith)
         ∙ old-answers
 
-    counted : attempting ≡ numbersOf (begun (sessionOf k x) step a j)
+    counted : attempting ≡ headOf (begun (sessionOf k x) step a j)
     unfolding begun fresh sessionOf
     counted = λ i. record { scheme = k .scheme; n = k .n; history = k .history; attempt = a; count = no-count i }
 
@@ -295,8 +295,8 @@ module _ (k : Numbers) (x : List Float) (long : length x ≡ FIGURES) (typed : T
 
 -- ---- an answer
 
-module _ (k : Numbers) (x : List Float) (long : length x ≡ FIGURES) (y : List Float) (early : k .count < answersKept) where
-  abbrev pub answering : Numbers
+module _ (k : Head) (x : List Float) (long : length x ≡ FIGURES) (y : List Float) (early : k .count < answersKept) where
+  abbrev pub answering : Head
   answering = record { scheme = k .scheme; n = k .n; history = k .history; attempt = k .attempt; count = k .count + 1 }
 
   abbrev pub answerFigures : List Float
@@ -336,7 +336,7 @@ module _ (k : Numbers) (x : List Float) (long : length x ≡ FIGURES) (y : List 
 
 -- ---- a time, a state and a derivative, at rest
 
-module _ (k : Numbers) (x : List Float) (long : length x ≡ FIGURES) (r : Session) (e : sessionOf k x ≡ rested r) (time : Float) (u f g : List Float)
+module _ (k : Head) (x : List Float) (long : length x ≡ FIGURES) (r : Session) (e : sessionOf k x ≡ rested r) (time : Float) (u f g : List Float)
     (places-u : length u ≡ places) (places-f : length f ≡ places) (places-g : length g ≡ places) where
   -- before the history is looked at
   abbrev pub movedFigures : List Float
@@ -380,7 +380,7 @@ module _ (k : Numbers) (x : List Float) (long : length x ≡ FIGURES) (r : Sessi
   at-moved : eqb (r .scheme) etd2Number ≡ false → sessionOf k movedFigures ≡ moved r time u f g
   unfolding moved opened idle fresh rested sessionOf
   at-moved other =
-      by-fields k movedFigures (moved r time u f g) (ap numbersOf e ∙ (rw other))
+      by-fields k movedFigures (moved r time u f g) (ap headOf e ∙ (rw other))
       now-time
       (figure stepAt (omega arith) (omega arith) ∙ ap (λ (z : Session). z .step) e)
       (figure relativeAt (omega arith) (omega arith) ∙ ap (λ (z : Session). z .relative) e)
@@ -397,7 +397,7 @@ module _ (k : Numbers) (x : List Float) (long : length x ≡ FIGURES) (r : Sessi
   move-is other a b = ap (sessionOf k) (stored a b) ∙ at-moved other
 
   -- Etd2 keeps the nonlinear part
-  abbrev pub remembering : Numbers
+  abbrev pub remembering : Head
   remembering = record { scheme = k .scheme; n = k .n; history = Held; attempt = k .attempt; count = k .count }
 
   abbrev keptFigures : List Float
@@ -409,7 +409,7 @@ module _ (k : Numbers) (x : List Float) (long : length x ≡ FIGURES) (r : Sessi
   at-etd2 : eqb (r .scheme) etd2Number ≡ true → sessionOf remembering keptFigures ≡ moved r time u f g
   unfolding moved opened idle fresh rested sessionOf
   at-etd2 same =
-      let q = ap numbersOf e in
+      let q = ap headOf e in
       by-fields remembering keptFigures (moved r time u f g)
       (rw same (λ i. record { scheme = q i .scheme; n = q i .n; history = Held; attempt = q i .attempt; count = q i .count }))
       (read-before _ previousAt places movedFigures timeAt (omega arith) ∙ now-time)
@@ -490,7 +490,7 @@ module _ (x : List Float) (long : length x ≡ FIGURES) (time relative absolute 
         ∙ read-before _ derivativeAt places _ p (omega arith)
         ∙ read-before _ stateAt places _ p l
 
-    at-open : (k : Numbers) → k .attempt ≡ None → k .count ≡ 0
+    at-open : (k : Head) → k .attempt ≡ None → k .count ≡ 0
         → sessionOf k runFigures
         ≡ opened (record { scheme = k .scheme; n = k .n; time = time; state = u; derivative = f; relative = relative; absolute = absolute; history = k .history; previous = g })
     unfolding opened idle fresh
@@ -514,7 +514,7 @@ module _ (x : List Float) (long : length x ≡ FIGURES) (time relative absolute 
     -- from what the code leaves
     pub open-is : {y z w v : List Float} → y ≡ stores (λ i _. u ! i) stateAt (length u) headFigures → z ≡ stores (λ i _. f ! i) derivativeAt (length f) y
         → w ≡ stores (λ i _. g ! i) previousAt (length g) z → v ≡ stores (λ _ _. zero+) jacobianAt (jacobianRoom + answerRoom) w
-        → (k : Numbers) → k .attempt ≡ None → k .count ≡ 0
+        → (k : Head) → k .attempt ≡ None → k .count ≡ 0
         → sessionOf k v
         ≡ opened (record { scheme = k .scheme; n = k .n; time = time; state = u; derivative = f; relative = relative; absolute = absolute; history = k .history; previous = g })
     open-is {y} {z} {w} {v} a b c d k none zero-count =
@@ -539,7 +539,7 @@ module _ (x : List Float) (e : length x ≡ FIGURES) where
   zeros-at : (at m : ℕ) → at + m ≤ FIGURES → part blankFigures at m ≡ replicate m zero+
   zeros-at at m l = part-wiped at m 0 FIGURES x (omega arith) (omega arith) (omega arith)
 
-  no-session : (k : Numbers) → k ≡ numbersOf nothing → sessionOf k blankFigures ≡ nothing
+  no-session : (k : Head) → k ≡ headOf nothing → sessionOf k blankFigures ≡ nothing
   unfolding nothing opened idle fresh
   no-session k n =
       by-fields k blankFigures nothing n
@@ -553,7 +553,7 @@ module _ (x : List Float) (e : length x ≡ FIGURES) where
       (zeros-at jacobianAt jacobianRoom (omega arith))
       (zeros-at answersAt answerRoom (omega arith))
 
-  pub at-nothing : (k : Numbers) (y : List Float) → k ≡ numbersOf nothing → y ≡ stores (λ _ _. zero+) 0 FIGURES x → sessionOf k y ≡ nothing
+  pub at-nothing : (k : Head) (y : List Float) → k ≡ headOf nothing → y ≡ stores (λ _ _. zero+) 0 FIGURES x → sessionOf k y ≡ nothing
   at-nothing k y n w = ap (sessionOf k) w ∙ no-session k n
 
 -- a session that a call in one phase takes is taken by one in any
@@ -563,8 +563,8 @@ passes-any wants s e = good-closed (passed-good wants s e) Any
 
 -- ---- accept
 
-module _ (k : Numbers) (x u d g : List Float) {b : Bool} (e : b ≡ finite (x ! timeAt ⊕ x ! stepAt)) where
-  pub arrive-ok : b ≡ true → {l : Left} (n : Numbers) (y : List Float) → l ≡ restingAt n → sessionOf n y ≡ moved (sessionOf k x) (x ! timeAt ⊕ x ! stepAt) u d g
+module _ (k : Head) (x u d g : List Float) {b : Bool} (e : b ≡ finite (x ! timeAt ⊕ x ! stepAt)) where
+  pub arrive-ok : b ≡ true → {l : Left} (n : Head) (y : List Float) → l ≡ restingAt n → sessionOf n y ≡ moved (sessionOf k x) (x ! timeAt ⊕ x ! stepAt) u d g
       → toldBy l y ≡ arrived (sessionOf k x) u d g
   unfolding arrived
   arrive-ok t {l} n y f m =

@@ -1,11 +1,11 @@
--- A session as numbers and figures: its figures stand one behind the other, in a list that can be lent. Definitions only.
+-- A session as head and figures: its figures stand one behind the other, in a list that can be lent. Definitions only.
 use Prim.Native.Nat.{ℕ, _+_}
 use mathlib.Core.List.{List, [], _∷_, _++_}
 use lib.Ieee.{Float}
 use Rattle.loops.specs.Loop.{tab, _!_}
 use Rattle.evaluation.specs.Sizes.{places, answerRoom}
 use Rattle.session.specs.declared.Session.{Session}
-use Rattle.session.specs.declared.Numbers.{Numbers}
+use Rattle.session.specs.declared.Head.{Head}
 use Rattle.session.specs.Session.{jacobianRoom}
 
 -- ---- where each figure stands: behind the one before it. The code's constants have the same names, as STATE_AT for stateAt
@@ -41,7 +41,7 @@ answersAt = jacobianAt + jacobianRoom
 abbrev pub FIGURES : ℕ
 FIGURES = answersAt + answerRoom
 
--- ---- a session of numbers and figures, and the numbers and figures of a session
+-- ---- a session of head and figures, and the head and figures of a session
 
 -- n figures of x from place `at` on
 unfoldable pub part : List Float → ℕ → ℕ → List Float
@@ -52,7 +52,7 @@ unfoldable pub first : ℕ → List Float → List Float
 first n x = tab n (λ i. x ! i)
 
 -- the session that they hold
-unfoldable pub sessionOf : Numbers → List Float → Session
+unfoldable pub sessionOf : Head → List Float → Session
 sessionOf k figures = record {
   scheme = k .scheme;
   n = k .n;
@@ -70,8 +70,8 @@ sessionOf k figures = record {
   answers = part figures answersAt answerRoom;
 }
 
-abbrev pub numbersOf : Session → Numbers
-numbersOf s = record { scheme = s .scheme; n = s .n; history = s .history; attempt = s .attempt; count = s .count }
+abbrev pub headOf : Session → Head
+headOf s = record { scheme = s .scheme; n = s .n; history = s .history; attempt = s .attempt; count = s .count }
 
 -- a session's arrays, each with its size, in the order of their places
 abbrev pub arrays : Session → List (ℕ × List Float)

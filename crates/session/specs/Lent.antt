@@ -7,7 +7,7 @@ use lib.Dec.{eqb}
 use lib.Ieee.{Float}
 use lib.ListN.{length, take}
 use Rattle.session.specs.declared.Session.{Session}
-use Rattle.session.specs.declared.Numbers.{Numbers}
+use Rattle.session.specs.declared.Head.{Head}
 use Rattle.session.specs.declared.History.{History}
 use Rattle.session.specs.declared.Attempt.the-variants.{None}
 use Rattle.session.specs.declared.Left.{Left}
@@ -20,7 +20,7 @@ use Rattle.methods.specs.Step.{Progress}
 use Rattle.engine.specs.Engine.{perturbed, jacobianEntry, columnOk}
 use Rattle.session.specs.Session.{Run, stepped, question}
 use Rattle.session.specs.Calls.{Outcome, tell, nothing, openCall}
-use Rattle.session.specs.Figures.{FIGURES, sessionOf, numbersOf, figuresOf}
+use Rattle.session.specs.Figures.{FIGURES, sessionOf, headOf, figuresOf}
 
 -- ---- what the code's steps hand on
 
@@ -28,8 +28,8 @@ use Rattle.session.specs.Figures.{FIGURES, sessionOf, numbersOf, figures
 abbrev pub arraysFinite : Session → Bool
 arraysFinite s = allFinite (s .state) && allFinite (s .derivative) && allFinite (s .previous) && allFinite (s .jacobian) && allFinite (s .answers)
 
--- the numbers of a run that is to be opened
-abbrev pub unopened : ℕ → ℕ → History → Numbers
+-- the head of a run that is to be opened
+abbrev pub unopened : ℕ → ℕ → History → Head
 unopened scheme n history = record { scheme = scheme; n = n; history = history; attempt = None; count = 0 }
 
 -- a column of the differenced Jacobian
@@ -50,19 +50,19 @@ suppliedFrom s = stepped s (take (s .n * s .n) (s .jacobian)) 0
 
 -- ---- the calls
 
--- the session that a call left, as numbers and in the figures, with its answer
+-- the session that a call left, as a head and in the figures, with its answer
 abbrev pub toldBy : Left → List Float → Told
-toldBy r figures = tell (r .answer) (sessionOf (r .numbers) figures)
+toldBy r figures = tell (r .answer) (sessionOf (r .head) figures)
 
--- refused by k, with the numbers as they were
-abbrev pub refusedBy : Numbers → ℕ → Left
-refusedBy numbers k = record { answer = Refused k; numbers = numbers }
+-- refused by k, with the head as it was
+abbrev pub refusedBy : Head → ℕ → Left
+refusedBy head k = record { answer = Refused k; head = head }
 
--- at rest, with these numbers
-abbrev pub restingAt : Numbers → Left
-restingAt numbers = record { answer = Resting; numbers = numbers }
+-- at rest, with this head
+abbrev pub restingAt : Head → Left
+restingAt head = record { answer = Resting; head = head }
 
--- what is left: the answer, the numbers, the figures
+-- what is left: the answer, the head, the figures
 pub record Remains : Type 0 where
   pub left : Left
   pub figures : List Float
@@ -72,10 +72,10 @@ remains left figures = record { left = left; figures = figures }
 
 -- the answer of a call and the session that it returned
 unfoldable pub left : Told → Left
-left t = record { answer = t .answer; numbers = numbersOf (t .session) }
+left t = record { answer = t .answer; head = headOf (t .session) }
 
--- a call on the session that numbers and figures hold; where a length does not match, it is refused by 1 and all is left as it was
-unfoldable pub lentCall : Bool → Numbers → List Float → (Session → Told) → Remains
+-- a call on the session that head and figures hold; where a length does not match, it is refused by 1 and all is left as it was
+unfoldable pub lentCall : Bool → Head → List Float → (Session → Told) → Remains
 lentCall fits k figures call =
     let t = call (sessionOf k figures) in
     cond fits (remains (left t) (figuresOf (t .session))) (remains (refusedBy k 1) figures)
@@ -84,7 +84,7 @@ lentCall fits k figures call =
 unfoldable pub lentOpen : Bool → List Float → Run → Remains
 lentOpen fits figures r =
     let t = openCall r in
-    cond fits (remains (left t) (figuresOf (t .session))) (remains (refusedBy (numbersOf nothing) 1) figures)
+    cond fits (remains (left t) (figuresOf (t .session))) (remains (refusedBy (headOf nothing) 1) figures)
 
 -- a call that only tells
 unfoldable pub lentAsk : Bool → Told → Answer
@@ -98,7 +98,7 @@ pub record Fills : Type 0 where
 abbrev pub fills : Left → List Float → List Float → Fills
 fills left figures out = record { remains = remains left figures; out = out }
 
-unfoldable pub lentFill : Bool → Numbers → List Float → List Float → (Session → List Float → Outcome) → Fills
+unfoldable pub lentFill : Bool → Head → List Float → List Float → (Session → List Float → Outcome) → Fills
 lentFill fits k figures out call =
     let o = call (sessionOf k figures) out in
     cond fits (fills (left (o .told)) (figuresOf (o .told .session)) (o .out)) (fills (refusedBy k 1) figures out)

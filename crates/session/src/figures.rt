@@ -112,7 +112,7 @@ fn put_answers(x: [f64; ROOM], out: &mut [f64], at: usize)
     put(&x, out, at);
 }
 
-fn put_head(time: f64, step: f64, relative: f64, absolute: f64, out: &mut [f64])
+fn put_scalars(time: f64, step: f64, relative: f64, absolute: f64, out: &mut [f64])
     requires { ⌜ stateAt ≤ length (now out) ⌝ }
     ensures { λ _. ⌜ now (out .exit) ≡ set (set (set (set (now (out .entry)) timeAt «time») stepAt «step») relativeAt «relative») absoluteAt «absolute» ⌝ }
 {
@@ -132,7 +132,7 @@ pub fn put_session(s: Session, out: &mut [f64])
     let previous = s.previous;
     let jacobian = s.jacobian;
     let answers = s.answers;
-    put_head(s.time, s.step, s.relative, s.absolute, &mut *out);
+    put_scalars(s.time, s.step, s.relative, s.absolute, &mut *out);
     put_vector(state, &mut *out, STATE_AT);
     put_vector(derivative, &mut *out, DERIVATIVE_AT);
     put_vector(previous, &mut *out, PREVIOUS_AT);

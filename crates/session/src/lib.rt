@@ -17,7 +17,7 @@ ghost use Rattle.session.specs.Tests.{fault};
 ghost use Rattle.session.specs.Session.{jacobianRoom, clear, usedHistory, usedJacobian, stepClear, wanted, wantedBy, phaseWith, phaseOf, phaseNumber, admits};
 ghost use Rattle.session.specs.Session.{good1, historyOk, good2, good7, positive, stepOk, good4, good5, good3, sessionTests, Sound, attemptPlaces};
 ghost use Rattle.session.specs.Session.{isHeld, pointOf, stepped, question, differencing, progress};
-ghost use Rattle.session.specs.Figures.{FIGURES, stateAt, derivativeAt, previousAt, jacobianAt, answersAt, part, sessionOf, numbersOf, figuresOf};
+ghost use Rattle.session.specs.Figures.{FIGURES, stateAt, derivativeAt, previousAt, jacobianAt, answersAt, part, sessionOf, headOf, figuresOf};
 ghost use Rattle.session.specs.Calls.{outcome, tell, refuse, opened, nothing, begun, rested, answered, moved, readyOf, answerOf, shown, arrived, settled};
 ghost use Rattle.session.specs.Calls.{vectorTests, attemptOf, attemptTests, largestTests, beginTests, supplyTests, acceptTests, firstStepTests};
 ghost use Rattle.session.specs.Calls.{openCall, beginCall, supplyCall, acceptCall, dropCall, firstStepCall};
@@ -100,8 +100,8 @@ pub struct Session {
     pub answers: [f64; ROOM],
 }
 
-// What of a session is no double. Its figures are lent beside it.
-pub struct Numbers {
+// What of a session is no double; its figures are lent beside it.
+pub struct Head {
     pub scheme: u8,
     pub n: usize,
     pub history: History,
@@ -109,10 +109,10 @@ pub struct Numbers {
     pub count: usize,
 }
 
-// An answer, and the numbers of the session whose figures the call left.
+// An answer, and the head of the session whose figures the call left.
 pub struct Left {
     pub answer: Answer,
-    pub numbers: Numbers,
+    pub head: Head,
 }
 
 // An answer, and the session that comes back.
@@ -196,7 +196,7 @@ fn run_places(
 }
 
 // 1, of the attempt.
-fn attempt_places(k: Numbers, figures: &[f64], calm: bool) -> bool
+fn attempt_places(k: Head, figures: &[f64], calm: bool) -> bool
     requires { ⌜ (length (now figures) ≡ FIGURES) × (k .n ≤ places) ⌝ }
     requires { ⌜ («calm» ≡ true → arraysFinite (sessionOf k (now figures)) ≡ true) ⌝ }
     ensures { λ r. ⌜ r ≡ attemptPlaces (sessionOf k (now (figures .entry))) ⌝ }
@@ -212,7 +212,7 @@ fn attempt_places(k: Numbers, figures: &[f64], calm: bool) -> bool
         & places::clear_answers(&figures[ANSWERS_AT..FIGURES], k.count, n, calm)
 }
 
-fn good1(k: Numbers, figures: &[f64], calm: bool) -> bool
+fn good1(k: Head, figures: &[f64], calm: bool) -> bool
     requires { ⌜ length (now figures) ≡ FIGURES ⌝ }
     requires { ⌜ («calm» ≡ true → arraysFinite (sessionOf k (now figures)) ≡ true) ⌝ }
     ensures { λ r. ⌜ r ≡ good1 (sessionOf k (now (figures .entry))) ⌝ }
@@ -242,7 +242,7 @@ fn history_ok(h: History, scheme: u8) -> bool
     }
 }
 
-fn good2(k: Numbers) -> bool
+fn good2(k: Head) -> bool
     requires { ⌜ k .n ≤ places ⌝ }
     ensures { λ r. ⌜ ((figures : List Float) → r ≡ good2 (sessionOf k figures)) ⌝ }
 {
@@ -269,7 +269,7 @@ fn phase_with(more: bool) -> Phase
     if more { Phase::Asking } else { Phase::Waiting }
 }
 
-fn phase_of(k: Numbers) -> Phase
+fn phase_of(k: Head) -> Phase
     requires { ⌜ k .n ≤ places ⌝ }
     ensures { λ r. ⌜ ((figures : List Float) → r ≡ phaseOf (sessionOf k figures)) ⌝ }
 {
@@ -291,7 +291,7 @@ fn admits(wants: Wants, phase: Phase) -> bool
     }
 }
 
-fn good7(wants: Wants, k: Numbers) -> bool
+fn good7(wants: Wants, k: Head) -> bool
     requires { ⌜ k .n ≤ places ⌝ }
     ensures { λ r. ⌜ ((figures : List Float) → r ≡ good7 wants (sessionOf k figures)) ⌝ }
 {
@@ -329,13 +329,13 @@ fn good5(a: Attempt, step: f64) -> bool
 // Whether every figure of the arrays is finite.
 fn arrays_finite(figures: &[f64]) -> bool
     requires { ⌜ length (now figures) ≡ FIGURES ⌝ }
-    ensures { λ r. ⌜ ((k : Numbers) → r ≡ arraysFinite (sessionOf k (now (figures .entry)))) ⌝ }
+    ensures { λ r. ⌜ ((k : Head) → r ≡ arraysFinite (sessionOf k (now (figures .entry)))) ⌝ }
 {
     evaluation::all_finite(&figures[STATE_AT..FIGURES])
 }
 
 // The number by which a session is refused, 0 if by none.
-fn session_fault(wants: Wants, k: Numbers, figures: &[f64]) -> u8
+fn session_fault(wants: Wants, k: Head, figures: &[f64]) -> u8
     requires { ⌜ length (now figures) ≡ FIGURES ⌝ }
     ensures { λ r. ⌜ r ≡ fault (sessionTests wants (sessionOf k (now (figures .entry)))) ⌝ }
 {
@@ -368,7 +368,7 @@ fn session_fault(wants: Wants, k: Numbers, figures: &[f64]) -> u8
 
 // The same of a run that is to be opened: its attempt holds nothing.
 fn run_fault(
-    k: Numbers,
+    k: Head,
     time: f64,
     relative: f64,
     absolute: f64,
@@ -464,14 +464,7 @@ fn largest_fault(largest: f64) -> u8
 
 // ---- what a call is refused for: the session, then what is handed in
 
-fn begin_fault(
-    k: Numbers,
-    figures: &[f64],
-    step: f64,
-    a: Attempt,
-    jacobian: &[f64],
-    lent: usize,
-) -> u8
+fn begin_fault(k: Head, figures: &[f64], step: f64, a: Attempt, jacobian: &[f64], lent: usize) -> u8
     requires { ⌜ length (now figures) ≡ FIGURES ⌝ }
     ensures { λ r. ⌜ r ≡ fault (beginTests (sessionOf k (now (figures .entry))) «step» a (now (jacobian .entry)) lent) ⌝ }
 {
@@ -482,7 +475,7 @@ fn begin_fault(
     fault
 }
 
-fn supply_fault(k: Numbers, figures: &[f64], answer: &[f64], lent: usize) -> u8
+fn supply_fault(k: Head, figures: &[f64], answer: &[f64], lent: usize) -> u8
     requires { ⌜ length (now figures) ≡ FIGURES ⌝ }
     ensures { λ r. ⌜ r ≡ fault (supplyTests (sessionOf k (now (figures .entry))) (now (answer .entry)) lent) ⌝ }
 {
@@ -493,7 +486,7 @@ fn supply_fault(k: Numbers, figures: &[f64], answer: &[f64], lent: usize) -> u8
     fault
 }
 
-fn accept_fault(k: Numbers, figures: &[f64], derivative: &[f64]) -> u8
+fn accept_fault(k: Head, figures: &[f64], derivative: &[f64]) -> u8
     requires { ⌜ length (now figures) ≡ FIGURES ⌝ }
     ensures { λ r. ⌜ r ≡ fault (acceptTests (sessionOf k (now (figures .entry))) (now (derivative .entry))) ⌝ }
 {
@@ -504,7 +497,7 @@ fn accept_fault(k: Numbers, figures: &[f64], derivative: &[f64]) -> u8
     fault
 }
 
-fn first_step_fault(k: Numbers, figures: &[f64], largest: f64) -> u8
+fn first_step_fault(k: Head, figures: &[f64], largest: f64) -> u8
     requires { ⌜ length (now figures) ≡ FIGURES ⌝ }
     ensures { λ r. ⌜ r ≡ fault (firstStepTests (sessionOf k (now (figures .entry))) «largest») ⌝ }
 {
@@ -526,7 +519,7 @@ fn is_held(h: History) -> bool
     }
 }
 
-fn point_of(k: Numbers, figures: &[f64]) -> methods::Point
+fn point_of(k: Head, figures: &[f64]) -> methods::Point
     requires { ⌜ length (now figures) ≡ FIGURES ⌝ }
     ensures { λ r. ⌜ r ≡ pointOf (sessionOf k (now (figures .entry))) ⌝ }
 {
@@ -573,7 +566,7 @@ fn asked(x: [f64; PLACES], time: f64) -> methods::StepResult
 }
 
 // All columns are answered: the step with the Jacobian that they give.
-fn stepped_from(k: Numbers, figures: &[f64], a: &mut [f64]) -> methods::StepResult
+fn stepped_from(k: Head, figures: &[f64], a: &mut [f64]) -> methods::StepResult
     requires { ⌜ (length (now figures) ≡ FIGURES) × Sound (sessionOf k (now figures)) ⌝ }
     requires { ⌜ (k .n ≤ k .count) × (k .count ≤ k .n + 4) ⌝ }
     requires { ⌜ length (now a) ≡ k .n * k .n ⌝ }
@@ -592,7 +585,7 @@ fn stepped_from(k: Numbers, figures: &[f64], a: &mut [f64]) -> methods::StepResu
 }
 
 // Whether the first m columns were asked at finite states and are finite.
-fn columns_ok(k: Numbers, figures: &[f64], m: usize) -> bool
+fn columns_ok(k: Head, figures: &[f64], m: usize) -> bool
     requires { ⌜ (length (now figures) ≡ FIGURES) × Sound (sessionOf k (now figures)) ⌝ }
     requires { ⌜ m ≤ k .n ⌝ }
     ensures { λ r. ⌜ r ≡ every m (columnOf (sessionOf k (now (figures .entry)))) ⌝ }
@@ -607,7 +600,7 @@ fn columns_ok(k: Numbers, figures: &[f64], m: usize) -> bool
 }
 
 // The next column's question.
-fn column(k: Numbers, figures: &[f64]) -> methods::StepResult
+fn column(k: Head, figures: &[f64]) -> methods::StepResult
     requires { ⌜ (length (now figures) ≡ FIGURES) × Sound (sessionOf k (now figures)) ⌝ }
     ensures { λ r. ⌜ reached r ≡ columnAsked (sessionOf k (now (figures .entry))) ⌝ }
 {
@@ -615,7 +608,7 @@ fn column(k: Numbers, figures: &[f64]) -> methods::StepResult
     asked(x, figures[TIME_AT])
 }
 
-fn differencing(k: Numbers, figures: &[f64]) -> methods::StepResult
+fn differencing(k: Head, figures: &[f64]) -> methods::StepResult
     requires { ⌜ (length (now figures) ≡ FIGURES) × Sound (sessionOf k (now figures)) ⌝ }
     requires { ⌜ k .count ≤ k .n + 4 ⌝ }
     ensures { λ r. ⌜ reached r ≡ differencing (sessionOf k (now (figures .entry))) ⌝ }
@@ -636,7 +629,7 @@ fn differencing(k: Numbers, figures: &[f64]) -> methods::StepResult
     not_allowed()
 }
 
-fn supplied(k: Numbers, figures: &[f64]) -> methods::StepResult
+fn supplied(k: Head, figures: &[f64]) -> methods::StepResult
     requires { ⌜ (length (now figures) ≡ FIGURES) × Sound (sessionOf k (now figures)) ⌝ }
     requires { ⌜ k .count ≤ 4 ⌝ }
     ensures { λ r. ⌜ reached r ≡ suppliedFrom (sessionOf k (now (figures .entry))) ⌝ }
@@ -653,7 +646,7 @@ fn supplied(k: Numbers, figures: &[f64]) -> methods::StepResult
 }
 
 // Where the attempt stands.
-fn run_pass(k: Numbers, figures: &[f64]) -> methods::StepResult
+fn run_pass(k: Head, figures: &[f64]) -> methods::StepResult
     requires { ⌜ (length (now figures) ≡ FIGURES) × Sound (sessionOf k (now figures)) ⌝ }
     ensures { λ r. ⌜ reached r ≡ progress (sessionOf k (now (figures .entry))) ⌝ }
 {
@@ -667,7 +660,7 @@ fn run_pass(k: Numbers, figures: &[f64]) -> methods::StepResult
 
 // ---- what is told
 
-fn ready_of(k: Numbers, figures: &[f64], candidate: &[f64], error: &[f64]) -> Answer
+fn ready_of(k: Head, figures: &[f64], candidate: &[f64], error: &[f64]) -> Answer
     requires { ⌜ (length (now figures) ≡ FIGURES) × Sound (sessionOf k (now figures)) ⌝ }
     requires { ⌜ (length (now candidate) ≡ places) × (length (now error) ≡ places) ⌝ }
     ensures { λ r. ⌜ r ≡ readyOf (sessionOf k (now (figures .entry))) (now (candidate .entry)) (now (error .entry)) ⌝ }
@@ -690,7 +683,7 @@ fn ready_of(k: Numbers, figures: &[f64], candidate: &[f64], error: &[f64]) -> An
 }
 
 fn answer_of(
-    k: Numbers,
+    k: Head,
     figures: &[f64],
     kind: methods::Kind,
     x: [f64; PLACES],
@@ -712,7 +705,7 @@ struct Shown {
 }
 
 // The question or the candidate fills the output.
-fn show(k: Numbers, figures: &[f64], out: &mut [f64]) -> Shown
+fn show(k: Head, figures: &[f64], out: &mut [f64]) -> Shown
     requires { ⌜ (length (now figures) ≡ FIGURES) × Sound (sessionOf k (now figures)) ⌝ }
     requires { ⌜ length (now out) ≡ k .n ⌝ }
     ensures { λ r. ⌜ ((old : Session) → outcome (cond (r .ok) (tell (r .answer) (sessionOf k (now (figures .entry)))) (refuse old 6)) (now (out .exit))
@@ -736,13 +729,7 @@ fn show(k: Numbers, figures: &[f64], out: &mut [f64]) -> Shown
 // ---- what of a session changes
 
 // An attempt that has no answer yet, of a session at rest.
-fn put_attempt(
-    k: Numbers,
-    figures: &mut [f64],
-    step: f64,
-    attempt: Attempt,
-    jacobian: &[f64],
-) -> Numbers
+fn put_attempt(k: Head, figures: &mut [f64], step: f64, attempt: Attempt, jacobian: &[f64]) -> Head
     requires { ⌜ (length (now figures) ≡ FIGURES) × (length (now jacobian) ≡ jacobianRoom) ⌝ }
     requires { ⌜ fault (sessionTests (Wants.Only Phase.Rest) (sessionOf k (now figures))) ≡ 0 ⌝ }
     requires { ⌜ clear (usedJacobian attempt (k .n)) (now jacobian) ≡ true ⌝ }
@@ -751,11 +738,11 @@ fn put_attempt(
     let used = used_jacobian(attempt, k.n);
     figures[STEP_AT] = step;
     figures::put(&jacobian[..used], &mut *figures, JACOBIAN_AT);
-    Numbers { attempt, ..k }
+    Head { attempt, ..k }
 }
 
 // One answer more.
-fn put_answer(k: Numbers, figures: &mut [f64], answer: &[f64]) -> Numbers
+fn put_answer(k: Head, figures: &mut [f64], answer: &[f64]) -> Head
     requires { ⌜ (length (now figures) ≡ FIGURES) × (length (now answer) ≡ places) ⌝ }
     requires { ⌜ k .count < answersKept ⌝ }
     ensures { λ r. ⌜ (sessionOf r (now (figures .exit)) ≡ answered (sessionOf k (now (figures .entry))) (now (answer .entry)))
@@ -763,14 +750,14 @@ fn put_answer(k: Numbers, figures: &mut [f64], answer: &[f64]) -> Numbers
 {
     let count = k.count;
     figures::put(answer, &mut *figures, ANSWERS_AT + PLACES * count);
-    Numbers {
+    Head {
         count: count + 1,
         ..k
     }
 }
 
 // The places of the k-th answer hold nothing again.
-fn take_answer_back(k: Numbers, figures: &mut [f64])
+fn take_answer_back(k: Head, figures: &mut [f64])
     requires { ⌜ (length (now figures) ≡ FIGURES) × (k .count < answersKept) ⌝ }
     ensures { λ _. ⌜ now (figures .exit) ≡ stores (λ _ _. zero+) (answersAt + places * k .count) places (now (figures .entry)) ⌝ }
 {
@@ -779,7 +766,7 @@ fn take_answer_back(k: Numbers, figures: &mut [f64])
 }
 
 // No attempt: what it held is +0.0.
-fn rest(k: Numbers, figures: &mut [f64]) -> Numbers
+fn rest(k: Head, figures: &mut [f64]) -> Head
     requires { ⌜ length (now figures) ≡ FIGURES ⌝ }
     requires { ⌜ fault (sessionTests Wants.Any (sessionOf k (now figures))) ≡ 0 ⌝ }
     ensures { λ r. ⌜ sessionOf r (now (figures .exit)) ≡ rested (sessionOf k (now (figures .entry))) ⌝ }
@@ -789,7 +776,7 @@ fn rest(k: Numbers, figures: &mut [f64]) -> Numbers
     figures[STEP_AT] = 0.0;
     figures::wipe(&mut *figures, JACOBIAN_AT, used);
     figures::wipe(&mut *figures, ANSWERS_AT, PLACES * k.count);
-    Numbers {
+    Head {
         attempt: Attempt::None,
         count: 0,
         ..k
@@ -798,13 +785,13 @@ fn rest(k: Numbers, figures: &mut [f64]) -> Numbers
 
 // A time and a state, at rest; Etd2 keeps the nonlinear part.
 fn move_on(
-    k: Numbers,
+    k: Head,
     figures: &mut [f64],
     time: f64,
     state: &[f64],
     derivative: &[f64],
     nonlinear: &[f64],
-) -> Numbers
+) -> Head
     requires { ⌜ length (now figures) ≡ FIGURES ⌝ }
     requires { ⌜ (length (now state) ≡ places) × (length (now derivative) ≡ places) × (length (now nonlinear) ≡ places) ⌝ }
     requires { ⌜ fault (sessionTests Wants.Any (sessionOf k (now figures))) ≡ 0 ⌝ }
@@ -816,7 +803,7 @@ fn move_on(
     figures::put(derivative, &mut *figures, DERIVATIVE_AT);
     if k.scheme == ETD2 {
         figures::put(nonlinear, &mut *figures, PREVIOUS_AT);
-        return Numbers {
+        return Head {
             history: History::Held,
             ..next
         };
@@ -836,7 +823,7 @@ fn put_run(
 )
     requires { ⌜ length (now figures) ≡ FIGURES ⌝ }
     requires { ⌜ (length (now state) ≡ places) × (length (now derivative) ≡ places) × (length (now previous) ≡ places) ⌝ }
-    ensures { λ _. ⌜ ((k : Numbers) → k .attempt ≡ Attempt.None → k .count ≡ 0 → sessionOf k (now (figures .exit)) ≡ opened (record {
+    ensures { λ _. ⌜ ((k : Head) → k .attempt ≡ Attempt.None → k .count ≡ 0 → sessionOf k (now (figures .exit)) ≡ opened (record {
       scheme = k .scheme;
       n = k .n;
       time = «time»;
@@ -859,19 +846,19 @@ fn put_run(
 }
 
 // What a refused open leaves: n and scheme 0, no attempt, no history, every figure +0.0.
-fn put_nothing(figures: &mut [f64]) -> Numbers
+fn put_nothing(figures: &mut [f64]) -> Head
     requires { ⌜ length (now figures) ≡ FIGURES ⌝ }
     ensures { λ r. ⌜ sessionOf r (now (figures .exit)) ≡ nothing ⌝ }
 {
     figures::wipe(&mut *figures, 0, FIGURES);
-    no_numbers()
+    no_head()
 }
 
-// The numbers of a run that is to be opened.
-fn unopened(scheme: u8, n: usize, history: History) -> Numbers
+// The head of a run that is to be opened.
+fn unopened(scheme: u8, n: usize, history: History) -> Head
     ensures { λ r. ⌜ r ≡ unopened scheme n history ⌝ }
 {
-    Numbers {
+    Head {
         scheme,
         n,
         history,
@@ -881,10 +868,10 @@ fn unopened(scheme: u8, n: usize, history: History) -> Numbers
 }
 
 // Those of what a refused open leaves.
-fn no_numbers() -> Numbers
-    ensures { λ r. ⌜ r ≡ numbersOf nothing ⌝ }
+fn no_head() -> Head
+    ensures { λ r. ⌜ r ≡ headOf nothing ⌝ }
 {
-    Numbers {
+    Head {
         scheme: 0,
         n: 0,
         history: History::Missing,
@@ -895,26 +882,26 @@ fn no_numbers() -> Numbers
 
 // ---- the calls over lent figures: what is tested, what is worked out, what of the session changes
 
-fn refused(k: Numbers, fault: u8) -> Left
+fn refused(k: Head, fault: u8) -> Left
     ensures { λ r. ⌜ r ≡ refusedBy k fault ⌝ }
 {
     Left {
         answer: Answer::Refused(fault),
-        numbers: k,
+        head: k,
     }
 }
 
-fn resting(k: Numbers) -> Left
+fn resting(k: Head) -> Left
     ensures { λ r. ⌜ r ≡ restingAt k ⌝ }
 {
     Left {
         answer: Answer::Resting,
-        numbers: k,
+        head: k,
     }
 }
 
 fn open_over(
-    k: Numbers,
+    k: Head,
     time: f64,
     relative: f64,
     absolute: f64,
@@ -955,7 +942,7 @@ fn open_over(
 }
 
 fn begin_over(
-    k: Numbers,
+    k: Head,
     figures: &mut [f64],
     step: f64,
     wish: Wish,
@@ -973,17 +960,14 @@ fn begin_over(
         let shown = show(next, &*figures, &mut *out);
         if shown.ok {
             let answer = shown.answer;
-            return Left {
-                answer,
-                numbers: next,
-            };
+            return Left { answer, head: next };
         }
         return refused(rest(next, figures), 6);
     }
     refused(k, fault)
 }
 
-fn supply_over(k: Numbers, figures: &mut [f64], answer: &[f64], out: &mut [f64]) -> Left
+fn supply_over(k: Head, figures: &mut [f64], answer: &[f64], out: &mut [f64]) -> Left
     requires { ⌜ (length (now figures) ≡ FIGURES) × (length (now answer) ≡ places) ⌝ }
     ensures { λ r. ⌜ outcome (toldBy r (now (figures .exit))) (now (out .exit)) ≡ supplyCall (sessionOf k (now (figures .entry))) (now (answer .entry)) (now (out .entry)) ⌝ }
 {
@@ -993,10 +977,7 @@ fn supply_over(k: Numbers, figures: &mut [f64], answer: &[f64], out: &mut [f64])
         let shown = show(next, &*figures, &mut *out);
         if shown.ok {
             let answer = shown.answer;
-            return Left {
-                answer,
-                numbers: next,
-            };
+            return Left { answer, head: next };
         }
         take_answer_back(k, figures);
         return refused(k, 6);
@@ -1006,7 +987,7 @@ fn supply_over(k: Numbers, figures: &mut [f64], answer: &[f64], out: &mut [f64])
 
 // The candidate becomes the state; refused where the time is not finite.
 fn arrive(
-    k: Numbers,
+    k: Head,
     figures: &mut [f64],
     candidate: [f64; PLACES],
     derivative: &[f64],
@@ -1023,7 +1004,7 @@ fn arrive(
     refused(k, 6)
 }
 
-fn settle(k: Numbers, figures: &mut [f64], derivative: &[f64]) -> Left
+fn settle(k: Head, figures: &mut [f64], derivative: &[f64]) -> Left
     requires { ⌜ (length (now figures) ≡ FIGURES) × (length (now derivative) ≡ places) ⌝ }
     requires { ⌜ fault (sessionTests Wants.Any (sessionOf k (now figures))) ≡ 0 ⌝ }
     ensures { λ r. ⌜ toldBy r (now (figures .exit)) ≡ settled (sessionOf k (now (figures .entry))) (now (derivative .entry)) (progress (sessionOf k (now (figures .entry)))) ⌝ }
@@ -1041,7 +1022,7 @@ fn settle(k: Numbers, figures: &mut [f64], derivative: &[f64]) -> Left
     refused(k, 6)
 }
 
-fn accept_over(k: Numbers, figures: &mut [f64], derivative: &[f64]) -> Left
+fn accept_over(k: Head, figures: &mut [f64], derivative: &[f64]) -> Left
     requires { ⌜ (length (now figures) ≡ FIGURES) × (length (now derivative) ≡ places) ⌝ }
     ensures { λ r. ⌜ toldBy r (now (figures .exit)) ≡ acceptCall (sessionOf k (now (figures .entry))) (now (derivative .entry)) ⌝ }
 {
@@ -1053,7 +1034,7 @@ fn accept_over(k: Numbers, figures: &mut [f64], derivative: &[f64]) -> Left
     refused(kept, fault)
 }
 
-fn drop_over(k: Numbers, figures: &mut [f64]) -> Left
+fn drop_over(k: Head, figures: &mut [f64]) -> Left
     requires { ⌜ length (now figures) ≡ FIGURES ⌝ }
     ensures { λ r. ⌜ toldBy r (now (figures .exit)) ≡ dropCall (sessionOf k (now (figures .entry))) ⌝ }
 {
@@ -1064,7 +1045,7 @@ fn drop_over(k: Numbers, figures: &mut [f64]) -> Left
     refused(k, fault)
 }
 
-fn first_step_over(k: Numbers, figures: &[f64], largest: f64) -> Answer
+fn first_step_over(k: Head, figures: &[f64], largest: f64) -> Answer
     requires { ⌜ length (now figures) ≡ FIGURES ⌝ }
     ensures { λ r. ⌜ tell r (sessionOf k (now (figures .entry))) ≡ firstStepCall (sessionOf k (now (figures .entry))) «largest» ⌝ }
 {
@@ -1083,7 +1064,7 @@ fn first_step_over(k: Numbers, figures: &[f64], largest: f64) -> Answer
     Answer::Refused(fault)
 }
 
-impl Numbers {
+impl Head {
     // Opens a run: it rests.
     pub fn open(
         scheme: u8,
@@ -1128,7 +1109,7 @@ impl Numbers {
                 figures,
             );
         }
-        refused(no_numbers(), 1)
+        refused(no_head(), 1)
     }
 
     // Begins an attempt: the first question, or the candidate where there is none, fills `out`.
@@ -1195,15 +1176,15 @@ impl Numbers {
     }
 }
 
-// ---- a session by value as numbers and figures, and back
+// ---- a session by value as head and figures, and back
 
 impl Session {
-    pub fn numbers(self) -> Numbers
-        ensures { λ r. ⌜ r ≡ numbersOf self ⌝ }
+    pub fn head(self) -> Head
+        ensures { λ r. ⌜ r ≡ headOf self ⌝ }
     {
         let history = self.history;
         let attempt = self.attempt;
-        Numbers {
+        Head {
             scheme: self.scheme,
             n: self.n,
             history,
@@ -1213,14 +1194,14 @@ impl Session {
     }
 
     pub fn figures(self) -> [f64; FIGURES]
-        ensures { λ r. ⌜ (r ≡ figuresOf self) × (sessionOf (numbersOf self) r ≡ self) ⌝ }
+        ensures { λ r. ⌜ (r ≡ figuresOf self) × (sessionOf (headOf self) r ≡ self) ⌝ }
     {
         let mut figures = [0.0; FIGURES];
         figures::put_session(self, &mut figures);
         figures
     }
 
-    pub fn of(k: Numbers, figures: [f64; FIGURES]) -> Session
+    pub fn of(k: Head, figures: [f64; FIGURES]) -> Session
         ensures { λ r. ⌜ r ≡ sessionOf k figures ⌝ }
     {
         let history = k.history;
@@ -1254,7 +1235,7 @@ fn given_back(left: Left, figures: [f64; FIGURES]) -> Told
     ensures { λ r. ⌜ r ≡ toldBy left figures ⌝ }
 {
     let answer = left.answer;
-    let k = left.numbers;
+    let k = left.head;
     Told {
         answer,
         session: Session::of(k, figures),
@@ -1308,14 +1289,7 @@ impl Session {
         ensures { λ r. ⌜ outcome r (now (out .exit)) ≡ beginCall self step wish jacobian (now (out .entry)) ⌝ }
     {
         let mut figures = self.figures();
-        let left = begin_over(
-            self.numbers(),
-            &mut figures,
-            step,
-            wish,
-            &jacobian,
-            &mut *out,
-        );
+        let left = begin_over(self.head(), &mut figures, step, wish, &jacobian, &mut *out);
         given_back(left, figures)
     }
 
@@ -1324,7 +1298,7 @@ impl Session {
         ensures { λ r. ⌜ outcome r (now (out .exit)) ≡ supplyCall self answer (now (out .entry)) ⌝ }
     {
         let mut figures = self.figures();
-        let left = supply_over(self.numbers(), &mut figures, &answer, &mut *out);
+        let left = supply_over(self.head(), &mut figures, &answer, &mut *out);
         given_back(left, figures)
     }
 
@@ -1333,7 +1307,7 @@ impl Session {
         ensures { λ r. ⌜ r ≡ acceptCall self derivative ⌝ }
     {
         let mut figures = self.figures();
-        let left = accept_over(self.numbers(), &mut figures, &derivative);
+        let left = accept_over(self.head(), &mut figures, &derivative);
         given_back(left, figures)
     }
 
@@ -1342,7 +1316,7 @@ impl Session {
         ensures { λ r. ⌜ r ≡ dropCall self ⌝ }
     {
         let mut figures = self.figures();
-        let left = drop_over(self.numbers(), &mut figures);
+        let left = drop_over(self.head(), &mut figures);
         given_back(left, figures)
     }
 
@@ -1351,7 +1325,7 @@ impl Session {
         ensures { λ r. ⌜ r ≡ firstStepCall self largest ⌝ }
     {
         let figures = self.figures();
-        let answer = first_step_over(self.numbers(), &figures, largest);
+        let answer = first_step_over(self.head(), &figures, largest);
         Told {
             answer,
             session: self,

@@ -17,4 +17,4 @@ put-nothing-spec =
     (λ c.
     let c3 = c .before .before .before in
     let c6 = c3 .before .before .before in
-    at-nothing _ (c6 .pre) _ _ (c .no-numbers .ensures) (c3 .wipe .ensures)))
+    at-nothing _ (c6 .pre) _ _ (c .no-head .ensures) (c3 .wipe .ensures)))

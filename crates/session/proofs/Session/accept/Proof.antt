@@ -17,4 +17,4 @@ accept-spec =
     let c2 = c .before .before in
     let c5 = c2 .before .before .before in
     let c6 = c5 .before in
-    rw (c .given-back .ensures, c2 .accept-over .ensures, c5 .numbers .ensures, c6 .figures .ensures .1)))
+    rw (c .given-back .ensures, c2 .accept-over .ensures, c5 .head .ensures, c6 .figures .ensures .1)))

@@ -16,4 +16,4 @@ drop-spec =
     let c2 = c .before .before in
     let c4 = c2 .before .before in
     let c5 = c4 .before in
-    rw (c .given-back .ensures, c2 .drop-over .ensures, c4 .numbers .ensures, c5 .figures .ensures .1)))
+    rw (c .given-back .ensures, c2 .drop-over .ensures, c4 .head .ensures, c5 .figures .ensures .1)))

@@ -1,7 +1,7 @@
 -- `session::Session::open` meets its contract. Assumes nothing.
 use borrow.Author.Needs.{needs}
 use mathlib.Core.Path.{ap, _∙_}
-use Rattle.session.specs.declared.Numbers.{Numbers}
+use Rattle.session.specs.declared.Head.{Head}
 use Rattle.session.proofs.Session.open.Statement.{statement}
 use Rattle.session.proofs.Session.open.Tie as tie
 
@@ -16,7 +16,7 @@ open-spec =
     (λ c. search needs)
     (λ c κs.
     let c4 = c .before .before .before .before in
-    (search needs, ((search needs, search needs, search needs), (ap (λ (k : Numbers). k .attempt) (c4 .unopened .ensures), ap (λ (k : Numbers). k .count) (c4 .unopened .ensures)))))
+    (search needs, ((search needs, search needs, search needs), (ap (λ (k : Head). k .attempt) (c4 .unopened .ensures), ap (λ (k : Head). k .count) (c4 .unopened .ensures)))))
     (λ c κs. search needs)
     (λ c.
     let c2 = c .before .before in

@@ -18,4 +18,4 @@ supply-spec =
     let c4 = c .before .before .before .before in
     let c8 = c4 .before .before .before .before in
     let c9 = c8 .before in
-    rw (c .given-back .ensures, c4 .supply-over .ensures, c8 .numbers .ensures, c9 .figures .ensures .1)))
+    rw (c .given-back .ensures, c4 .supply-over .ensures, c8 .head .ensures, c9 .figures .ensures .1)))

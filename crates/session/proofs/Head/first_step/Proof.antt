@@ -1,10 +1,10 @@
--- `session::Numbers::first_step` meets its contract. Assumes nothing.
+-- `session::Head::first_step` meets its contract. Assumes nothing.
 use mathlib.Core.Path.{ap}
 use borrow.Author.Tests.{eq-eqb, ne-eqb}
 use Rattle.session.specs.declared.Told.{Told}
 use Rattle.session.specs.Lent.{lentAsk}
-use Rattle.session.proofs.Numbers.first_step.Statement.{statement}
-use Rattle.session.proofs.Numbers.first_step.Tie as tie
+use Rattle.session.proofs.Head.first_step.Statement.{statement}
+use Rattle.session.proofs.Head.first_step.Tie as tie
 
 pub first-step-spec : {M : Type 1} → statement M
 unfolding lentAsk

@@ -1,12 +1,12 @@
--- `session::figures::put_head` meets its contract. Assumes nothing.
+-- `session::figures::put_scalars` meets its contract. Assumes nothing.
 use borrow.Author.Needs.{needs}
 use native.Mathlib.Omega.{arith}
 use lib.ListN.{length-set}
-use Rattle.session.proofs.figures.put_head.Statement.{statement}
-use Rattle.session.proofs.figures.put_head.Tie as tie
+use Rattle.session.proofs.figures.put_scalars.Statement.{statement}
+use Rattle.session.proofs.figures.put_scalars.Tie as tie
 
-pub put-head-spec : {M : Type 1} → statement M
-put-head-spec =
+pub put-scalars-spec : {M : Type 1} → statement M
+put-scalars-spec =
     tie.close
     (tie.spec
     (λ c. omega arith)

@@ -1,12 +1,12 @@
--- `session::Numbers::supply` meets its contract. Assumes nothing.
+-- `session::Head::supply` meets its contract. Assumes nothing.
 use borrow.Author.Needs.{needs}
 use native.Mathlib.Omega.{arith}
 use lib.ListN.{length}
 use Rattle.evaluation.specs.Sizes.{places}
 use Rattle.session.specs.Figures.{FIGURES}
 use Rattle.session.proofs.Bodies.{lent-filled, lent-unfilled, two-long}
-use Rattle.session.proofs.Numbers.supply.Statement.{statement}
-use Rattle.session.proofs.Numbers.supply.Tie as tie
+use Rattle.session.proofs.Head.supply.Statement.{statement}
+use Rattle.session.proofs.Head.supply.Tie as tie
 
 pub supply-spec : {M : Type 1} → statement M
 supply-spec =

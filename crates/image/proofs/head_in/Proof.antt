@@ -1,13 +1,13 @@
--- `image::numbers_in` meets its contract. Assumes nothing.
+-- `image::head_in` meets its contract. Assumes nothing.
 use borrow.Author.Needs.{needs}
 use native.Mathlib.Omega.{arith}
-use Rattle.image.specs.Image.{numbersIn}
-use Rattle.image.proofs.numbers_in.Statement.{statement}
-use Rattle.image.proofs.numbers_in.Tie as tie
+use Rattle.image.specs.Image.{headIn}
+use Rattle.image.proofs.head_in.Statement.{statement}
+use Rattle.image.proofs.head_in.Tie as tie
 
-pub numbers-in-spec : {M : Type 1} → statement M
-unfolding numbersIn
-numbers-in-spec =
+pub head-in-spec : {M : Type 1} → statement M
+unfolding headIn
+head-in-spec =
     tie.close
     (tie.spec
     (λ c. search needs)

@@ -1,11 +1,11 @@
--- `session::Numbers::drop` meets its contract. Assumes nothing.
+-- `session::Head::drop` meets its contract. Assumes nothing.
 use borrow.Author.Needs.{needs}
 use native.Mathlib.Omega.{arith}
 use borrow.Author.Tests.{eq-eqb, ne-eqb}
 use Rattle.session.specs.Calls.{dropCall}
 use Rattle.session.proofs.Bodies.{lent-made, lent-refused}
-use Rattle.session.proofs.Numbers.drop.Statement.{statement}
-use Rattle.session.proofs.Numbers.drop.Tie as tie
+use Rattle.session.proofs.Head.drop.Statement.{statement}
+use Rattle.session.proofs.Head.drop.Tie as tie
 
 pub drop-spec : {M : Type 1} → statement M
 drop-spec =

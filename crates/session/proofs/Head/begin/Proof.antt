@@ -1,12 +1,12 @@
--- `session::Numbers::begin` meets its contract. Assumes nothing.
+-- `session::Head::begin` meets its contract. Assumes nothing.
 use borrow.Author.Needs.{needs}
 use native.Mathlib.Omega.{arith}
 use lib.ListN.{length}
 use Rattle.session.specs.Session.{jacobianRoom}
 use Rattle.session.specs.Figures.{FIGURES}
 use Rattle.session.proofs.Bodies.{lent-filled, lent-unfilled, two-long}
-use Rattle.session.proofs.Numbers.begin.Statement.{statement}
-use Rattle.session.proofs.Numbers.begin.Tie as tie
+use Rattle.session.proofs.Head.begin.Statement.{statement}
+use Rattle.session.proofs.Head.begin.Tie as tie
 
 pub begin-spec : {M : Type 1} → statement M
 begin-spec =

@@ -1,12 +1,12 @@
--- `session::Numbers::accept` meets its contract. Assumes nothing.
+-- `session::Head::accept` meets its contract. Assumes nothing.
 use borrow.Author.Needs.{needs}
 use native.Mathlib.Omega.{arith}
 use lib.ListN.{length}
 use Rattle.evaluation.specs.Sizes.{places}
 use Rattle.session.specs.Figures.{FIGURES}
 use Rattle.session.proofs.Bodies.{lent-made, lent-refused, two-long}
-use Rattle.session.proofs.Numbers.accept.Statement.{statement}
-use Rattle.session.proofs.Numbers.accept.Tie as tie
+use Rattle.session.proofs.Head.accept.Statement.{statement}
+use Rattle.session.proofs.Head.accept.Tie as tie
 
 pub accept-spec : {M : Type 1} → statement M
 accept-spec =

@@ -1,14 +1,14 @@
--- `session::Numbers::open` meets its contract. Assumes nothing.
+-- `session::Head::open` meets its contract. Assumes nothing.
 use borrow.Author.Needs.{needs}
 use mathlib.Core.Path.{refl, ap, _∙_}
 use native.Mathlib.Omega.{arith}
 use lib.ListN.{length}
 use Rattle.evaluation.specs.Sizes.{places}
-use Rattle.session.specs.declared.Numbers.{Numbers}
+use Rattle.session.specs.declared.Head.{Head}
 use Rattle.session.specs.Figures.{FIGURES}
 use Rattle.session.proofs.Bodies.{lent-opened, lent-unopened, four-long}
-use Rattle.session.proofs.Numbers.open.Statement.{statement}
-use Rattle.session.proofs.Numbers.open.Tie as tie
+use Rattle.session.proofs.Head.open.Statement.{statement}
+use Rattle.session.proofs.Head.open.Tie as tie
 
 pub open-spec : {M : Type 1} → statement M
 open-spec =
@@ -20,7 +20,7 @@ open-spec =
     let c2 = c1 .before in
     let c6 = c2 .before .before .before .before in
     let c7 = c6 .before in
-    (four-long (length (c7 .args .figures .now)) (length (c7 .args .state .now)) (length (c7 .args .derivative .now)) (length (c7 .args .previous .now)) FIGURES places (c2 .if1 .taken) .0, (four-long (length (c7 .args .figures .now)) (length (c7 .args .state .now)) (length (c7 .args .derivative .now)) (length (c7 .args .previous .now)) FIGURES places (c2 .if1 .taken) .1, (ap (λ (k : Numbers). k .attempt) (c1 .unopened .ensures), ap (λ (k : Numbers). k .count) (c1 .unopened .ensures)))))
+    (four-long (length (c7 .args .figures .now)) (length (c7 .args .state .now)) (length (c7 .args .derivative .now)) (length (c7 .args .previous .now)) FIGURES places (c2 .if1 .taken) .0, (four-long (length (c7 .args .figures .now)) (length (c7 .args .state .now)) (length (c7 .args .derivative .now)) (length (c7 .args .previous .now)) FIGURES places (c2 .if1 .taken) .1, (ap (λ (k : Head). k .attempt) (c1 .unopened .ensures), ap (λ (k : Head). k .count) (c1 .unopened .ensures)))))
     (λ c. search needs)
     (λ c.
     let c2 = c .before .before in
@@ -34,4 +34,4 @@ open-spec =
     (λ c.
     let c1 = c .before in
     let c2 = c1 .before in
-    lent-unopened _ _ (c2 .if1 .left) _ (c1 .no-numbers .ensures) (c .refused .ensures)))
+    lent-unopened _ _ (c2 .if1 .left) _ (c1 .no-head .ensures) (c .refused .ensures)))
