@@ -37,25 +37,25 @@ pub const COUNT_AT: usize = ATTEMPT_AT + 1;
 pub const NUMBERS: usize = COUNT_AT + 1;
 
 // Among the figures.
-pub const TIME_AT: usize = session::figures::TIME_AT;
+pub const TIME_AT: usize = session::TIME_AT;
 
-pub const STEP_AT: usize = session::figures::STEP_AT;
+pub const STEP_AT: usize = session::STEP_AT;
 
-pub const RELATIVE_AT: usize = session::figures::RELATIVE_AT;
+pub const RELATIVE_AT: usize = session::RELATIVE_AT;
 
-pub const ABSOLUTE_AT: usize = session::figures::ABSOLUTE_AT;
+pub const ABSOLUTE_AT: usize = session::ABSOLUTE_AT;
 
-pub const STATE_AT: usize = session::figures::STATE_AT;
+pub const STATE_AT: usize = session::STATE_AT;
 
-pub const DERIVATIVE_AT: usize = session::figures::DERIVATIVE_AT;
+pub const DERIVATIVE_AT: usize = session::DERIVATIVE_AT;
 
-pub const PREVIOUS_AT: usize = session::figures::PREVIOUS_AT;
+pub const PREVIOUS_AT: usize = session::PREVIOUS_AT;
 
-pub const JACOBIAN_AT: usize = session::figures::JACOBIAN_AT;
+pub const JACOBIAN_AT: usize = session::JACOBIAN_AT;
 
-pub const ANSWERS_AT: usize = session::figures::ANSWERS_AT;
+pub const ANSWERS_AT: usize = session::ANSWERS_AT;
 
-pub const FIGURES: usize = session::figures::FIGURES;
+pub const FIGURES: usize = session::FIGURES;
 
 // Among the words in which a reply's outcome, refusal and counts cross.
 pub const OUTCOME_AT: usize = 0;
@@ -159,7 +159,11 @@ pub fn vector_of(x: &[f64]) -> [f64; VECTOR]
     requires { ⌜ length (now x) ≡ VECTOR ⌝ }
     ensures { λ r. ⌜ r ≡ now (x .entry) ⌝ }
 {
-    session::figures::vector_at(x, 0)
+    let mut out = [0.0; VECTOR];
+    for i in 0..VECTOR {
+        out[i] = x[i];
+    }
+    out
 }
 
 // ---- a head as words

@@ -24,7 +24,8 @@ use Rattle.session.specs.declared.Wants.the-variants.{Any, Only}
 use Rattle.session.specs.Tests.{fault, condition, unless}
 use Rattle.session.specs.Session.{Run, Sound, clear, usedJacobian, admits, good7, sessionTests, progress}
 use Rattle.session.specs.Claims.{Typed, Closed}
-use Rattle.session.specs.Calls.{Outcome, outcome, tell, refuse, refuseLent, opened, nothing, openCall, begun, rested, answered, shown, attemptOf, attemptTests, beginTests, supplyTests, beginCall, supplyCall}
+use Rattle.session.specs.Calls.{Outcome, outcome, tell, refuse, refuseLent, opened, nothing, begun, rested, answered, shown, attemptOf}
+use Rattle.session.specs.Calls.{openCall, attemptTests, beginTests, supplyTests, beginCall, supplyCall}
 use Rattle.session.specs.Figures.{FIGURES, sessionOf, headOf, figuresOf}
 use Rattle.session.specs.Lent.{toldBy, refusedBy, Remains, remains, left, fills, lentCall, lentOpen, lentFill}
 use Rattle.session.proofs.Tests.{unless-refused}

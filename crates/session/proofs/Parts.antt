@@ -48,10 +48,6 @@ pub part-ext : (x y : List Float) (at n : ℕ) → ((i : ℕ) → i < n → x ! 
 unfolding part
 part-ext x y at n h = tab-ext n (λ i. x ! (at + i)) (λ i. y ! (at + i)) h
 
--- a part that is the whole
-pub whole-part : (x : List Float) (n : ℕ) → length x ≡ n → part x 0 n ≡ x
-whole-part x n e = sym (is-part x x 0 n e (λ i h. ap (λ (k : ℕ). x ! k) (sym (zero-add i))))
-
 -- ---- what is read after stores
 
 module _ (g : ℕ → Float → Float) (b m : ℕ) (x : List Float) where

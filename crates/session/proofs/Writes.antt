@@ -72,6 +72,11 @@ used-small None n h = omega arith
 used-small Supplied n h = area h
 used-small Differenced n h = omega arith
 
+-- how much of a Jacobian is in use by a session that is not refused
+pub used-room : (k : Head) (x : List Float) (wants : Wants) (a : Attempt) → fault (sessionTests wants (sessionOf k x)) ≡ 0 → usedJacobian a (k .n) ≤ 256
+unfolding sessionOf
+used-room k x wants a e = used-small a (k .n) (fault-none wants (sessionOf k x) e .small)
+
 -- a place past those in use
 pub past-used : (used n : ℕ) (x : List Float) → Doubles n x → clear used x ≡ true → (i : ℕ) → used ≤ i → i < n → x ! i ≡ zero+
 unfolding clear

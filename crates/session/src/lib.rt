@@ -25,21 +25,21 @@ ghost use Rattle.session.specs.Lent.{arraysFinite, unopened, columnOf, c
 ghost use Rattle.session.specs.Lent.{lentCall, lentOpen, lentAsk, lentFill};
 ghost use Rattle.session.specs.Bare.{bare, exponentialTests, exponentialCall, phiTests, phiCall, normTests, normCall};
 
-pub mod figures;
+mod figures;
 mod places;
 
 use evaluation::PLACES;
 use evaluation::ROOM;
-use figures::ABSOLUTE_AT;
-use figures::ANSWERS_AT;
-use figures::DERIVATIVE_AT;
-use figures::FIGURES;
-use figures::JACOBIAN_AT;
-use figures::PREVIOUS_AT;
-use figures::RELATIVE_AT;
-use figures::STATE_AT;
-use figures::STEP_AT;
-use figures::TIME_AT;
+pub use figures::ABSOLUTE_AT;
+pub use figures::ANSWERS_AT;
+pub use figures::DERIVATIVE_AT;
+pub use figures::FIGURES;
+pub use figures::JACOBIAN_AT;
+pub use figures::PREVIOUS_AT;
+pub use figures::RELATIVE_AT;
+pub use figures::STATE_AT;
+pub use figures::STEP_AT;
+pub use figures::TIME_AT;
 use methods::ETD2;
 use methods::EXPRB32;
 use methods::EXPRB43;

@@ -54,7 +54,13 @@ vunchrem-accept-spec =
     let c22 = c21 .before in
     let c26 = c22 .before .before .before .before in
     let c28 = c26 .before .before in
-    rw (← (c22 .sized .ensures), ← (c17 .lent .ensures), c16 .if1 .taken) (refl, lent-back (c28 .args .numbers .now) (c28 .args .figures .now) _ (tested (c22 .sized .result) _ (c17 .lent .ensures) (c16 .if1 .taken) .figures) (right-two (length (c28 .args .figures .now)) FIGURES (length (c28 .args .derivative .now)) VECTOR (tested (c22 .sized .result) _ (c17 .lent .ensures) (c16 .if1 .taken) .figures) (eqb-true _ _ (sym (c22 .sized .ensures) ∙ and-left (c22 .sized .result) (c17 .lent .result) (c16 .if1 .taken)))) (c6 .give-back .ensures .0) (c6 .give-back .ensures .1) (λ (s : Session). acceptCall s (c28 .args .derivative .now)) (rw (c14 .head-in .ensures) at (c12 .accept .ensures)) (accept-same _ _)))
+    rw (← (c22 .sized .ensures), ← (c17 .lent .ensures), c16 .if1 .taken) (
+      refl,
+      lent-back (c28 .args .numbers .now) (c28 .args .figures .now) _ (tested (c22 .sized .result) _ (c17 .lent .ensures) (c16 .if1 .taken) .figures)
+          (right-two (length (c28 .args .figures .now)) FIGURES (length (c28 .args .derivative .now)) VECTOR (tested (c22 .sized .result) _ (c17 .lent .ensures) (c16 .if1 .taken) .figures)
+          (eqb-true _ _ (sym (c22 .sized .ensures) ∙ and-left (c22 .sized .result) (c17 .lent .result) (c16 .if1 .taken)))) (c6 .give-back .ensures .0) (c6 .give-back .ensures .1)
+          (λ (s : Session). acceptCall s (c28 .args .derivative .now)) (rw (c14 .head-in .ensures) at (c12 .accept .ensures)) (accept-same _ _),
+    ))
     (λ c. search needs)
     (λ c. search needs)
     (λ c. search needs)

@@ -58,7 +58,14 @@ vunchrem-begin-spec =
     let c26 = c25 .before in
     let c30 = c26 .before .before .before .before in
     let c33 = c30 .before .before .before in
-    rw (← (c26 .sized .ensures), ← (c21 .lent .ensures), c20 .if1 .taken) (refl, lent-back-out (c33 .args .numbers .now) (c33 .args .figures .now) _ (tested (c26 .sized .result) _ (c21 .lent .ensures) (c20 .if1 .taken) .figures) (right-two (length (c33 .args .figures .now)) FIGURES (length (c33 .args .jacobian .now)) MATRIX (tested (c26 .sized .result) _ (c21 .lent .ensures) (c20 .if1 .taken) .figures) (eqb-true _ _ (sym (c26 .sized .ensures) ∙ and-left (c26 .sized .result) (c21 .lent .result) (c20 .if1 .taken)))) (c6 .give-back .ensures .0) (c6 .give-back .ensures .1) (λ (s : Session) (o : List Float). beginCall s (c33 .args .step) (wishOf (c33 .args .wish)) (c33 .args .jacobian .now) o) (c33 .args .out .now) (rw (c18 .head-in .ensures, c16 .wish-of .ensures) at (c14 .begin .ensures)) (begin-same _ _ _ _ _)))
+    rw (← (c26 .sized .ensures), ← (c21 .lent .ensures), c20 .if1 .taken) (
+      refl,
+      lent-back-out (c33 .args .numbers .now) (c33 .args .figures .now) _ (tested (c26 .sized .result) _ (c21 .lent .ensures) (c20 .if1 .taken) .figures)
+          (right-two (length (c33 .args .figures .now)) FIGURES (length (c33 .args .jacobian .now)) MATRIX (tested (c26 .sized .result) _ (c21 .lent .ensures) (c20 .if1 .taken) .figures)
+          (eqb-true _ _ (sym (c26 .sized .ensures) ∙ and-left (c26 .sized .result) (c21 .lent .result) (c20 .if1 .taken)))) (c6 .give-back .ensures .0) (c6 .give-back .ensures .1)
+          (λ (s : Session) (o : List Float). beginCall s (c33 .args .step) (wishOf (c33 .args .wish)) (c33 .args .jacobian .now) o) (c33 .args .out .now)
+          (rw (c18 .head-in .ensures, c16 .wish-of .ensures) at (c14 .begin .ensures)) (begin-same _ _ _ _ _),
+    ))
     (λ c. search needs)
     (λ c. search needs)
     (λ c. search needs)

@@ -43,7 +43,12 @@ vunchrem-drop-spec =
     let c21 = c17 .before .before .before .before in
     let c25 = c21 .before .before .before .before in
     let c26 = c25 .before in
-    rw (← (c17 .lent .ensures), c16 .if1 .taken) (refl, lent-back (c26 .args .numbers .now) (c26 .args .figures .now) _ (fits _ (sym (c17 .lent .ensures) ∙ c16 .if1 .taken) .figures) (eq-eqb _ _ (fits _ (sym (c17 .lent .ensures) ∙ c16 .if1 .taken) .figures)) (c6 .give-back .ensures .0) (c6 .give-back .ensures .1) dropCall (rw (c14 .head-in .ensures) at (c12 .drop .ensures)) (drop-same _)))
+    rw (← (c17 .lent .ensures), c16 .if1 .taken) (
+      refl,
+      lent-back (c26 .args .numbers .now) (c26 .args .figures .now) _ (fits _ (sym (c17 .lent .ensures) ∙ c16 .if1 .taken) .figures)
+          (eq-eqb _ _ (fits _ (sym (c17 .lent .ensures) ∙ c16 .if1 .taken) .figures)) (c6 .give-back .ensures .0) (c6 .give-back .ensures .1) dropCall
+          (rw (c14 .head-in .ensures) at (c12 .drop .ensures)) (drop-same _),
+    ))
     (λ c. search needs)
     (λ c. search needs)
     (λ c. search needs)

@@ -31,7 +31,8 @@ vunchrem-first-step-spec =
     let c8 = c7 .before in
     let c9 = c8 .before in
     let c10 = c9 .before in
-    rw (← (c10 .lent .ensures), c9 .if1 .taken) (refl, rw (c7 .first-step .ensures, eq-eqb _ _ (fits _ (sym (c10 .lent .ensures) ∙ c9 .if1 .taken) .figures), c8 .head-in .ensures) at (c4 .say .ensures .0)))
+    rw (← (c10 .lent .ensures), c9 .if1 .taken)
+    (refl, rw (c7 .first-step .ensures, eq-eqb _ _ (fits _ (sym (c10 .lent .ensures) ∙ c9 .if1 .taken) .figures), c8 .head-in .ensures) at (c4 .say .ensures .0)))
     (λ c. search needs)
     (λ c. search needs)
     (λ c.

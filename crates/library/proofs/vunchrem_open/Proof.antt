@@ -59,7 +59,8 @@ vunchrem-open-spec =
     rw (← (c24 .three .ensures), ← (c19 .lent .ensures), c18 .if1 .taken) (
       refl,
       lent-open (c32 .args .figures .now)
-          (right-four (length (c32 .args .figures .now)) (length (c32 .args .state .now)) (length (c32 .args .derivative .now)) (length (c32 .args .previous .now)) FIGURES VECTOR (tested (c24 .three .result) _ (c19 .lent .ensures) (c18 .if1 .taken) .figures) (long .first) (long .second) (long .third))
+          (right-four (length (c32 .args .figures .now)) (length (c32 .args .state .now)) (length (c32 .args .derivative .now)) (length (c32 .args .previous .now)) FIGURES VECTOR
+          (tested (c24 .three .result) _ (c19 .lent .ensures) (c18 .if1 .taken) .figures) (long .first) (long .second) (long .third))
           _ (rw (c17 .scheme-of .ensures, c16 .history-of .ensures) at (c14 .«open» .ensures)) (c2 .put-numbers .ensures) (c8 .say .ensures .0),
     ))
     (λ c. search needs)

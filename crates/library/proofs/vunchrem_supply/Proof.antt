@@ -55,7 +55,13 @@ vunchrem-supply-spec =
     let c25 = c24 .before in
     let c29 = c25 .before .before .before .before in
     let c32 = c29 .before .before .before in
-    rw (← (c25 .sized .ensures), ← (c20 .lent .ensures), c19 .if1 .taken) (refl, lent-back-out (c32 .args .numbers .now) (c32 .args .figures .now) _ (tested (c25 .sized .result) _ (c20 .lent .ensures) (c19 .if1 .taken) .figures) (right-two (length (c32 .args .figures .now)) FIGURES (length (c32 .args .answer .now)) VECTOR (tested (c25 .sized .result) _ (c20 .lent .ensures) (c19 .if1 .taken) .figures) (eqb-true _ _ (sym (c25 .sized .ensures) ∙ and-left (c25 .sized .result) (c20 .lent .result) (c19 .if1 .taken)))) (c6 .give-back .ensures .0) (c6 .give-back .ensures .1) (λ (s : Session) (o : List Float). supplyCall s (c32 .args .answer .now) o) (c32 .args .out .now) (rw (c17 .head-in .ensures) at (c14 .supply .ensures)) (supply-same _ _ _)))
+    rw (← (c25 .sized .ensures), ← (c20 .lent .ensures), c19 .if1 .taken) (
+      refl,
+      lent-back-out (c32 .args .numbers .now) (c32 .args .figures .now) _ (tested (c25 .sized .result) _ (c20 .lent .ensures) (c19 .if1 .taken) .figures)
+          (right-two (length (c32 .args .figures .now)) FIGURES (length (c32 .args .answer .now)) VECTOR (tested (c25 .sized .result) _ (c20 .lent .ensures) (c19 .if1 .taken) .figures)
+          (eqb-true _ _ (sym (c25 .sized .ensures) ∙ and-left (c25 .sized .result) (c20 .lent .result) (c19 .if1 .taken)))) (c6 .give-back .ensures .0) (c6 .give-back .ensures .1)
+          (λ (s : Session) (o : List Float). supplyCall s (c32 .args .answer .now) o) (c32 .args .out .now) (rw (c17 .head-in .ensures) at (c14 .supply .ensures)) (supply-same _ _ _),
+    ))
     (λ c. search needs)
     (λ c. search needs)
     (λ c. search needs)

@@ -38,11 +38,22 @@ attempt-places-spec =
     omega (arith, c6 .pre .0 .0))
     (λ c κs.
     let c4 = c .before .before .before .before in
-    let c7 = c4 .before .before .before in
-    ((slice-long (c7 .args .figures .now) 308 320 (omega (arith, c7 .pre .0 .0)), c7 .pre .0 .1), λ e. ap allFinite (answers-slice (c7 .args .k) _ (c7 .pre .0 .0)) ∙ answers-calm (c7 .args .k) _ (c7 .pre .1 e)))
+    let c7 = c4 .before .before .before in (
+      (slice-long (c7 .args .figures .now) 308 320 (omega (arith, c7 .pre .0 .0)), c7 .pre .0 .1),
+      λ e. ap allFinite (answers-slice (c7 .args .k) _ (c7 .pre .0 .0)) ∙ answers-calm
+          (c7 .args .k) _ (c7 .pre .1 e),
+    ))
     (λ c.
     let c2 = c .before .before in
     let c3 = c2 .before in
     let c5 = c3 .before .before in
     let c8 = c5 .before .before .before in
-    rw (c5 .step-clear .ensures, c2 .clear .ensures, c3 .used-jacobian .ensures, c .clear-answers .ensures, jacobian-slice (c8 .args .k) _ (c8 .pre .0 .0), answers-slice (c8 .args .k) _ (c8 .pre .0 .0)) (unfold sessionOf in refl)))
+    rw (
+      c5 .step-clear .ensures,
+      c2 .clear .ensures,
+      c3 .used-jacobian .ensures,
+      c .clear-answers .ensures,
+      jacobian-slice (c8 .args .k) _ (c8 .pre .0 .0),
+      answers-slice (c8 .args .k) _
+          (c8 .pre .0 .0),
+    ) (unfold sessionOf in refl)))

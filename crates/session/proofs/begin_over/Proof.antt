@@ -25,15 +25,30 @@ begin-over-spec =
     let c1 = c .before in
     let c2 = c1 .before in
     let c4 = c2 .before .before in
-    let c8 = c4 .before .before .before .before in
-    (c8 .pre, (begin-rests (sessionOf (c8 .args .k) (c8 .args .figures .now)) (c8 .args .step) (c8 .args .wish) (c8 .args .jacobian .now) (c8 .args .out .now) (c4 .attempt-of .ensures) (c2 .begin-fault .ensures) (c1 .if1 .taken), (unfold sessionOf in begin-clear (sessionOf (c8 .args .k) (c8 .args .figures .now)) (c8 .args .step) (c8 .args .wish) (c8 .args .jacobian .now) (c8 .args .out .now) (c4 .attempt-of .ensures) (c2 .begin-fault .ensures) (c1 .if1 .taken)))))
+    let c8 = c4 .before .before .before .before in (
+      c8 .pre,
+      (
+        begin-rests _ _ _ _ (c8 .args .out .now) (c4 .attempt-of .ensures) (c2 .begin-fault .ensures) (c1 .if1 .taken),
+        (unfold sessionOf in
+            begin-clear (sessionOf (c8 .args .k) (c8 .args .figures .now)) (c8 .args .step) (c8 .args .wish) (c8 .args .jacobian .now) (c8 .args .out .now) (c4 .attempt-of .ensures)
+            (c2 .begin-fault .ensures) (c1 .if1 .taken)),
+      ),
+    ))
     (λ c κs.
     let c4 = c .before .before .before .before in
     let c6 = c4 .before .before in
     let c7 = c6 .before in
     let c9 = c7 .before .before in
-    let c13 = c9 .before .before .before .before in
-    ((omega (arith, c4 .put-attempt .kept, c13 .pre .0), begin-sound (sessionOf (c13 .args .k) (c13 .args .figures .now)) (c13 .args .step) (c13 .args .wish) (c13 .args .jacobian .now) (c13 .args .out .now) (c9 .attempt-of .ensures) (c7 .begin-fault .ensures) (c6 .if1 .taken) _ (c4 .put-attempt .ensures)), (unfold sessionOf begun in (begin-room (sessionOf (c13 .args .k) (c13 .args .figures .now)) (c13 .args .step) (c13 .args .wish) (c13 .args .jacobian .now) (c13 .args .out .now) (c9 .attempt-of .ensures) (c7 .begin-fault .ensures) (c6 .if1 .taken) ∙ sym (ap (λ (z : Session). z .n) (c4 .put-attempt .ensures))))))
+    let c13 = c9 .before .before .before .before in (
+      (
+        omega (arith, c4 .put-attempt .kept, c13 .pre .0),
+        begin-sound _ _ _ _ (c13 .args .out .now) (c9 .attempt-of .ensures) (c7 .begin-fault .ensures) (c6 .if1 .taken) _ (c4 .put-attempt .ensures),
+      ),
+      (unfold sessionOf begun in
+          (begin-room (sessionOf (c13 .args .k) (c13 .args .figures .now)) (c13 .args .step) (c13 .args .wish) (c13 .args .jacobian .now) (c13 .args .out .now) (c9 .attempt-of .ensures)
+          (c7 .begin-fault .ensures) (c6 .if1 .taken)
+          ∙ sym (ap (λ (z : Session). z .n) (c4 .put-attempt .ensures)))),
+    ))
     (λ c. search needs)
     (λ c. search needs)
     (λ c.
@@ -44,7 +59,7 @@ begin-over-spec =
     let c11 = c10 .before in
     let c13 = c11 .before .before in
     let c17 = c13 .before .before .before .before in
-    begin-shown (sessionOf (c17 .args .k) (c17 .args .figures .now)) (c17 .args .step) (c17 .args .wish) (c17 .args .jacobian .now) (c17 .args .out .now) (c13 .attempt-of .ensures) (c11 .begin-fault .ensures) (c10 .if1 .taken) _ (c8 .put-attempt .ensures) _ _ (c3 .show .ensures) (c .if2 .taken))
+    begin-shown _ _ _ _ (c17 .args .out .now) (c13 .attempt-of .ensures) (c11 .begin-fault .ensures) (c10 .if1 .taken) _ (c8 .put-attempt .ensures) _ _ (c3 .show .ensures) (c .if2 .taken))
     (λ c κs.
     let c4 = c .before .before .before .before in
     let c8 = c4 .before .before .before .before in
@@ -53,7 +68,7 @@ begin-over-spec =
     let c12 = c11 .before in
     let c14 = c12 .before .before in
     let c18 = c14 .before .before .before .before in
-    (omega (arith, c9 .put-attempt .kept, c18 .pre .0), begin-any (sessionOf (c18 .args .k) (c18 .args .figures .now)) (c18 .args .step) (c18 .args .wish) (c18 .args .jacobian .now) (c18 .args .out .now) (c14 .attempt-of .ensures) (c12 .begin-fault .ensures) (c11 .if1 .taken) _ (c9 .put-attempt .ensures)))
+    (omega (arith, c9 .put-attempt .kept, c18 .pre .0), begin-any _ _ _ _ (c18 .args .out .now) (c14 .attempt-of .ensures) (c12 .begin-fault .ensures) (c11 .if1 .taken) _ (c9 .put-attempt .ensures)))
     (λ c κs. search needs)
     (λ c. search needs)
     (λ c. search needs)
@@ -68,8 +83,9 @@ begin-over-spec =
     let c18 = c16 .before .before in
     let c21 = c18 .before .before .before in
     let c22 = c21 .before in
-    begin-six (sessionOf (c22 .args .k) (c22 .args .figures .now)) (c22 .args .step) (c22 .args .wish) (c22 .args .jacobian .now) (c22 .args .out .now) (c18 .attempt-of .ensures) (c16 .begin-fault .ensures) (c15 .if1 .taken) _ (c13 .put-attempt .ensures) _ _ (c8 .show .ensures) (c5 .if2 .left)
-    (typed-passed _ _ (Only Rest) (begin-rests (sessionOf (c22 .args .k) (c22 .args .figures .now)) (c22 .args .step) (c22 .args .wish) (c22 .args .jacobian .now) (c22 .args .out .now) (c18 .attempt-of .ensures) (c16 .begin-fault .ensures) (c15 .if1 .taken)) (record { places = c22 .pre .0; fit = λ i. c21 .slice-known .given i })) _ _ (c .refused .ensures) (c3 .rest .ensures))
+    begin-six _ _ _ _ (c22 .args .out .now) (c18 .attempt-of .ensures) (c16 .begin-fault .ensures) (c15 .if1 .taken) _ (c13 .put-attempt .ensures) _ _ (c8 .show .ensures) (c5 .if2 .left)
+    (typed-passed _ _ (Only Rest) (begin-rests _ _ _ _ (c22 .args .out .now) (c18 .attempt-of .ensures) (c16 .begin-fault .ensures) (c15 .if1 .taken))
+    (record { places = c22 .pre .0; fit = c21 .slice-known .given })) _ _ (c .refused .ensures) (c3 .rest .ensures))
     (λ c κs. search needs)
     (λ c. search needs)
     (λ c.
@@ -77,4 +93,4 @@ begin-over-spec =
     let c2 = c1 .before in
     let c4 = c2 .before .before in
     let c8 = c4 .before .before .before .before in
-    begin-refused (sessionOf (c8 .args .k) (c8 .args .figures .now)) (c8 .args .step) (c8 .args .wish) (c8 .args .jacobian .now) (c8 .args .out .now) (c4 .attempt-of .ensures) (c2 .begin-fault .ensures) (c1 .if1 .left) _ _ (c .refused2 .ensures) refl))
+    begin-refused _ _ _ _ (c8 .args .out .now) (c4 .attempt-of .ensures) (c2 .begin-fault .ensures) (c1 .if1 .left) _ _ (c .refused2 .ensures) refl))

@@ -31,8 +31,11 @@ good1-spec =
     omega (arith, c4 .pre .0))
     (λ c κs.
     let c4 = c .before .before .before .before in
-    let c5 = c4 .before in
-    ((λ e. ap allFinite (state-slice (c5 .args .k) _ (c5 .pre .0)) ∙ state-calm (c5 .args .k) _ (c5 .pre .1 e)), (λ e. ap allFinite (derivative-slice (c5 .args .k) _ (c5 .pre .0)) ∙ derivative-calm (c5 .args .k) _ (c5 .pre .1 e)), (λ e. ap allFinite (previous-slice (c5 .args .k) _ (c5 .pre .0)) ∙ previous-calm (c5 .args .k) _ (c5 .pre .1 e))))
+    let c5 = c4 .before in (
+      (λ e. ap allFinite (state-slice (c5 .args .k) _ (c5 .pre .0)) ∙ state-calm (c5 .args .k) _ (c5 .pre .1 e)),
+      (λ e. ap allFinite (derivative-slice (c5 .args .k) _ (c5 .pre .0)) ∙ derivative-calm (c5 .args .k) _ (c5 .pre .1 e)),
+      (λ e. ap allFinite (previous-slice (c5 .args .k) _ (c5 .pre .0)) ∙ previous-calm (c5 .args .k) _ (c5 .pre .1 e)),
+    ))
     (λ c κs.
     let c4 = c .before .before .before .before in
     let c6 = c4 .before .before in
@@ -41,5 +44,12 @@ good1-spec =
     let c1 = c .before in
     let c5 = c1 .before .before .before .before in
     let c7 = c5 .before .before in
-    rw (c1 .run-places .ensures, c .attempt-places .ensures, state-slice (c7 .args .k) _ (c7 .pre .0), derivative-slice (c7 .args .k) _ (c7 .pre .0), previous-slice (c7 .args .k) _ (c7 .pre .0)) (unfold sessionOf in rw (c5 .if1 .taken)))
+    rw (
+      c1 .run-places .ensures,
+      c .attempt-places .ensures,
+      state-slice (c7 .args .k) _ (c7 .pre .0),
+      derivative-slice (c7 .args .k) _ (c7 .pre .0),
+      previous-slice (c7 .args .k) _
+          (c7 .pre .0),
+    ) (unfold sessionOf in rw (c5 .if1 .taken)))
     (λ c. unfold sessionOf in rw (c .if1 .left)))

@@ -57,7 +57,8 @@ move-on-spec =
     let c16 = c12 .before .before .before .before in
     let c20 = c16 .before .before .before .before in
     let c22 = c20 .before .before in
-    move-etd2 (c16 .rest .result) (c16 .rest .last .1 .0) (omega (arith, c16 .rest .kept, c22 .pre .0)) (sessionOf (c22 .args .k) (c22 .args .figures .now)) (c16 .rest .ensures) (c22 .args .time) (c22 .args .state .now) (c22 .args .derivative .now) (c22 .args .nonlinear .now) (c22 .pre .1 .0 .0) (c22 .pre .1 .0 .1) (c22 .pre .1 .0 .2) (unfold sessionOf in eq-eqb _ _ (c4 .if1 .taken)) (c12 .put .ensures) (c8 .put2 .ensures) (c2 .put3 .ensures))
+    move-etd2 _ _ (omega (arith, c16 .rest .kept, c22 .pre .0)) _ (c16 .rest .ensures) _ _ _ _ (c22 .pre .1 .0 .0) (c22 .pre .1 .0 .1) (c22 .pre .1 .0 .2)
+    (unfold sessionOf in eq-eqb _ _ (c4 .if1 .taken)) (c12 .put .ensures) (c8 .put2 .ensures) (c2 .put3 .ensures))
     (λ c.
     let c4 = c .before .before .before .before in
     let c8 = c4 .before .before .before .before in
@@ -71,4 +72,5 @@ move-on-spec =
     let c12 = c8 .before .before .before .before in
     let c16 = c12 .before .before .before .before in
     let c18 = c16 .before .before in
-    move-is (c12 .rest .result) (c12 .rest .last .1 .0) (omega (arith, c12 .rest .kept, c18 .pre .0)) (sessionOf (c18 .args .k) (c18 .args .figures .now)) (c12 .rest .ensures) (c18 .args .time) (c18 .args .state .now) (c18 .args .derivative .now) (c18 .args .nonlinear .now) (c18 .pre .1 .0 .0) (c18 .pre .1 .0 .1) (c18 .pre .1 .0 .2) (unfold sessionOf in ne-eqb _ _ (c .if1 .left)) (c8 .put .ensures) (c4 .put2 .ensures)))
+    move-is _ _ (omega (arith, c12 .rest .kept, c18 .pre .0)) _ (c12 .rest .ensures) _ _ _ _ (c18 .pre .1 .0 .0) (c18 .pre .1 .0 .1) (c18 .pre .1 .0 .2)
+    (unfold sessionOf in ne-eqb _ _ (c .if1 .left)) (c8 .put .ensures) (c4 .put2 .ensures)))

@@ -53,7 +53,16 @@ put-run-spec =
     let c14 = c10 .before .before .before .before in
     let c18 = c14 .before .before .before .before in
     let c20 = c18 .before .before in
-    omega (arith, c2 .wipe .kept, c6 .put3 .kept, c10 .put2 .kept, c14 .put .kept, c20 .pre .0, head-long (c20 .args .figures .now) (c20 .pre .0) (c20 .args .time) (c20 .args .relative) (c20 .args .absolute)))
+    omega (
+      arith,
+      c2 .wipe .kept,
+      c6 .put3 .kept,
+      c10 .put2 .kept,
+      c14 .put .kept,
+      c20 .pre .0,
+      head-long (c20 .args .figures .now) (c20 .pre .0) (c20 .args .time) (c20 .args .relative)
+          (c20 .args .absolute),
+    ))
     (λ c.
     let c2 = c .before .before in
     let c6 = c2 .before .before .before .before in
@@ -61,4 +70,5 @@ put-run-spec =
     let c14 = c10 .before .before .before .before in
     let c18 = c14 .before .before .before .before in
     let c20 = c18 .before .before in
-    open-is (c20 .args .figures .now) (c20 .pre .0) (c20 .args .time) (c20 .args .relative) (c20 .args .absolute) (c20 .args .state .now) (c20 .args .derivative .now) (c20 .args .previous .now) (c20 .pre .1 .0) (c20 .pre .1 .1) (c20 .pre .1 .2) (c14 .put .ensures) (c10 .put2 .ensures) (c6 .put3 .ensures) (c2 .wipe .ensures)))
+    open-is (c20 .args .figures .now) (c20 .pre .0) (c20 .args .time) (c20 .args .relative) (c20 .args .absolute) (c20 .args .state .now) (c20 .args .derivative .now)
+    (c20 .args .previous .now) (c20 .pre .1 .0) (c20 .pre .1 .1) (c20 .pre .1 .2) (c14 .put .ensures) (c10 .put2 .ensures) (c6 .put3 .ensures) (c2 .wipe .ensures)))

@@ -24,17 +24,25 @@ rest-spec =
     let c1 = c .before in
     let c2 = c1 .before in
     let c3 = c2 .before in
-    simp length-set (omega (arith, c1 .used-jacobian .ensures, c3 .pre .0, few (c3 .args .k) (c3 .args .figures .now) (c3 .pre .0) (typed-passed _ _ Any (c3 .pre .1) (record { places = c3 .pre .0; fit = λ i. c2 .slice-known .given i })) (c3 .pre .1))))
+    simp length-set
+    (omega (arith, c1 .used-jacobian .ensures, c3 .pre .0, few _ _ (c3 .pre .0) (typed-passed _ _ Any (c3 .pre .1) (record { places = c3 .pre .0; fit = c2 .slice-known .given })) (c3 .pre .1))))
     (λ c.
     let c4 = c .before .before .before .before in
     let c7 = c4 .before .before .before in
     let c8 = c7 .before in
-    omega (arith, short (c8 .args .k) (c8 .args .figures .now) (c8 .pre .0) (typed-passed _ _ Any (c8 .pre .1) (record { places = c8 .pre .0; fit = λ i. c7 .slice-known .given i })) (c8 .pre .1)))
+    omega (arith, short _ _ (c8 .pre .0) (typed-passed _ _ Any (c8 .pre .1) (record { places = c8 .pre .0; fit = c7 .slice-known .given })) (c8 .pre .1)))
     (λ c κs.
     let c4 = c .before .before .before .before in
     let c7 = c4 .before .before .before in
     let c8 = c7 .before in
-    omega (arith, short (c8 .args .k) (c8 .args .figures .now) (c8 .pre .0) (typed-passed _ _ Any (c8 .pre .1) (record { places = c8 .pre .0; fit = λ i. c7 .slice-known .given i })) (c8 .pre .1), c4 .wipe .kept, c8 .pre .0, length-set (c8 .args .figures .now) 1 zero+))
+    omega (
+      arith,
+      short _ _ (c8 .pre .0) (typed-passed _ _ Any (c8 .pre .1) (record { places = c8 .pre .0; fit = c7 .slice-known .given }))
+          (c8 .pre .1),
+      c4 .wipe .kept,
+      c8 .pre .0,
+      length-set (c8 .args .figures .now) 1 zero+,
+    ))
     (λ c.
     let c2 = c .before .before in
     let c6 = c2 .before .before .before .before in
@@ -48,5 +56,5 @@ rest-spec =
     let c9 = c7 .before .before in
     let c10 = c9 .before in
     let c11 = c10 .before in
-    rest-is (c11 .args .k) (c11 .args .figures .now) (c11 .pre .0) (typed-passed _ _ Any (c11 .pre .1) (record { places = c11 .pre .0; fit = λ i. c10 .slice-known .given i })) (c11 .pre .1)
+    rest-is (c11 .args .k) (c11 .args .figures .now) (c11 .pre .0) (typed-passed _ _ Any (c11 .pre .1) (record { places = c11 .pre .0; fit = c10 .slice-known .given })) (c11 .pre .1)
     (c9 .used-jacobian .ensures) (c7 .wipe .ensures) (c2 .wipe2 .ensures)))

@@ -21,7 +21,8 @@ accept-spec =
     let c2 = c .before .before in
     let c4 = c2 .before .before in
     let c7 = c4 .before .before .before in
-    lent-made _ _ (c4 .if1 .taken) _ (omega (arith, c2 .accept-over .kept, two-long (length (c7 .args .figures .now)) FIGURES (length (c7 .args .derivative .now)) places (c4 .if1 .taken) .0)) _ (c2 .accept-over .ensures))
+    lent-made _ _ (c4 .if1 .taken) _
+    (omega (arith, c2 .accept-over .kept, two-long (length (c7 .args .figures .now)) FIGURES (length (c7 .args .derivative .now)) places (c4 .if1 .taken) .0)) _ (c2 .accept-over .ensures))
     (λ c κs. search needs)
     (λ c.
     let c1 = c .before in

@@ -22,7 +22,8 @@ begin-spec =
     let c4 = c .before .before .before .before in
     let c7 = c4 .before .before .before in
     let c11 = c7 .before .before .before .before in
-    lent-filled _ _ (c7 .if1 .taken) _ (omega (arith, c4 .begin-over .kept, two-long (length (c11 .args .figures .now)) FIGURES (length (c11 .args .jacobian .now)) jacobianRoom (c7 .if1 .taken) .0)) _ _ _ (c4 .begin-over .ensures))
+    lent-filled _ _ (c7 .if1 .taken) _
+    (omega (arith, c4 .begin-over .kept, two-long (length (c11 .args .figures .now)) FIGURES (length (c11 .args .jacobian .now)) jacobianRoom (c7 .if1 .taken) .0)) _ _ _ (c4 .begin-over .ensures))
     (λ c κs. search needs)
     (λ c.
     let c1 = c .before in

@@ -20,7 +20,15 @@ open-spec =
     let c2 = c1 .before in
     let c6 = c2 .before .before .before .before in
     let c7 = c6 .before in
-    (four-long (length (c7 .args .figures .now)) (length (c7 .args .state .now)) (length (c7 .args .derivative .now)) (length (c7 .args .previous .now)) FIGURES places (c2 .if1 .taken) .0, (four-long (length (c7 .args .figures .now)) (length (c7 .args .state .now)) (length (c7 .args .derivative .now)) (length (c7 .args .previous .now)) FIGURES places (c2 .if1 .taken) .1, (ap (λ (k : Head). k .attempt) (c1 .unopened .ensures), ap (λ (k : Head). k .count) (c1 .unopened .ensures)))))
+    let long =
+    four-long (length (c7 .args .figures .now)) (length (c7 .args .state .now)) (length (c7 .args .derivative .now))
+    (length (c7 .args .previous .now)) FIGURES places (c2 .if1 .taken) in (
+      long .0,
+      (
+        long .1,
+        (ap (λ (k : Head). k .attempt) (c1 .unopened .ensures), ap (λ (k : Head). k .count) (c1 .unopened .ensures)),
+      ),
+    ))
     (λ c. search needs)
     (λ c.
     let c2 = c .before .before in
@@ -28,7 +36,10 @@ open-spec =
     let c5 = c4 .before in
     let c9 = c5 .before .before .before .before in
     let c10 = c9 .before in
-    lent-opened (c4 .unopened .result) _ (c5 .if1 .taken) _ (omega (arith, c2 .open-over .kept, four-long (length (c10 .args .figures .now)) (length (c10 .args .state .now)) (length (c10 .args .derivative .now)) (length (c10 .args .previous .now)) FIGURES places (c5 .if1 .taken) .0)) _ (rw (c4 .unopened .ensures) at (c2 .open-over .ensures)))
+    let long =
+    four-long (length (c10 .args .figures .now)) (length (c10 .args .state .now)) (length (c10 .args .derivative .now))
+    (length (c10 .args .previous .now)) FIGURES places (c5 .if1 .taken) in
+    lent-opened (c4 .unopened .result) _ (c5 .if1 .taken) _ (omega (arith, c2 .open-over .kept, long .0)) _ (rw (c4 .unopened .ensures) at (c2 .open-over .ensures)))
     (λ c κs. search needs)
     (λ c κs. search needs)
     (λ c.

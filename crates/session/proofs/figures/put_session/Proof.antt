@@ -25,4 +25,5 @@ put-session-spec =
     let c22 = c18 .before .before .before .before in
     let c26 = c22 .before .before .before .before in
     let c30 = c26 .before .before .before .before in
-    rw (c2 .put-answers .ensures, c6 .put-matrix .ensures, c10 .put-vector3 .ensures, c14 .put-vector2 .ensures, c18 .put-vector .ensures, c22 .put-scalars .ensures) (all-stored _ (c30 .args .out .now) (c30 .pre))))
+    rw (c2 .put-answers .ensures, c6 .put-matrix .ensures, c10 .put-vector3 .ensures, c14 .put-vector2 .ensures, c18 .put-vector .ensures, c22 .put-scalars .ensures)
+    (all-stored _ (c30 .args .out .now) (c30 .pre))))
