@@ -5,7 +5,9 @@ ghost use Prim.Native.Nat.{_+_, _*_, _≤_};
 ghost use lib.ListN.{length};
 ghost use Rattle.image.specs.Image.{NUMBERS};
 ghost use Rattle.session.specs.Figures.{FIGURES};
+ghost use Rattle.session.specs.Old.{oldFigures};
 use session::Answer;
+use session::Head;
 use session::History;
 use session::Session;
 use session::Wish;
@@ -15,9 +17,6 @@ struct Next {
     on: bool,
     session: Session,
 }
-
-// The bytes of a session's image: its numbers, one byte each, then its figures.
-const IMAGE: usize = image::NUMBERS + 8 * image::FIGURES;
 
 // ---- bytes
 
@@ -131,7 +130,7 @@ fn told_lent(t: session::Told, out: &[f64]) -> Next
 }
 
 fn open_call(s: Session) -> Next {
-    let mut b = [0u8; 411];
+    let mut b = [0u8; 531];
     if !read_all(&mut b) {
         return stop(s);
     }
@@ -139,12 +138,12 @@ fn open_call(s: Session) -> Next {
         b[0],
         wide(b[1]),
         wire::read_f64(&b, 3),
-        vector(&b, 27),
-        vector(&b, 155),
+        vector(&b, 147),
+        vector(&b, 275),
         wire::read_f64(&b, 11),
-        wire::read_f64(&b, 19),
+        vector(&b, 19),
         image::history_of(long(b[2])),
-        vector(&b, 283),
+        vector(&b, 403),
     ))
 }
 
@@ -331,19 +330,18 @@ fn phi_call(s: Session) -> Next {
 }
 
 fn norm_call(s: Session) -> Next {
-    let mut b = [0u8; 401];
+    let mut b = [0u8; 521];
     if !read_all(&mut b) {
         return stop(s);
     }
     let relative = wire::read_f64(&b, 1);
-    let absolute = wire::read_f64(&b, 9);
     let answer = session::error_norm(
         wide(b[0]),
         relative,
-        absolute,
-        vector(&b, 17),
-        vector(&b, 145),
-        vector(&b, 273),
+        vector(&b, 9),
+        vector(&b, 137),
+        vector(&b, 265),
+        vector(&b, 393),
     );
     let on = say(answer);
     Next { on: on, session: s }
@@ -364,33 +362,62 @@ fn show_call(s: Session) -> Next {
     let mut numbers = [0u64; image::NUMBERS];
     image::put_numbers(s.head(), &mut numbers);
     let figures = s.figures();
-    let mut b = [0u8; IMAGE];
+    let mut b = [0u8; image::BYTES];
     put_image(&numbers, &figures, &mut b);
     let on = io::write_all(1, &b);
     Next { on: on, session: s }
 }
 
-fn loaded(b: &[u8]) -> Session
-    requires { ⌜ length (now b) ≡ NUMBERS + 8 * FIGURES ⌝ }
+// The head that an image's first bytes hold.
+fn head(b: &[u8]) -> Head
+    requires { ⌜ NUMBERS ≤ length (now b) ⌝ }
 {
     let mut numbers = [0u64; image::NUMBERS];
     for i in 0..image::NUMBERS {
         numbers[i] = long(b[i]);
     }
+    image::head_in(&numbers)
+}
+
+fn loaded(b: &[u8]) -> Session
+    requires { ⌜ length (now b) ≡ NUMBERS + 8 * FIGURES ⌝ }
+{
     let mut figures = [0.0; image::FIGURES];
     doubles(b, image::NUMBERS, &mut figures);
-    let k = image::head_in(&numbers);
+    Session::of(head(b), figures)
+}
+
+// The session that an image of the layout before request 1 is brought over as.
+fn brought_over(b: &[u8]) -> Session
+    requires { ⌜ length (now b) ≡ NUMBERS + 8 * oldFigures ⌝ }
+{
+    let mut old = [0.0; image::OLD_FIGURES];
+    doubles(b, image::NUMBERS, &mut old);
+    let k = head(b);
+    let mut figures = [0.0; image::FIGURES];
+    k.bring_over(&old, &mut figures);
     Session::of(k, figures)
 }
 
 fn load_call(s: Session) -> Next {
-    let mut b = [0u8; IMAGE];
+    let mut b = [0u8; image::BYTES];
     if !read_all(&mut b) {
         return stop(s);
     }
     Next {
         on: true,
         session: loaded(&b),
+    }
+}
+
+fn bring_over_call(s: Session) -> Next {
+    let mut b = [0u8; image::OLD_BYTES];
+    if !read_all(&mut b) {
+        return stop(s);
+    }
+    Next {
+        on: true,
+        session: brought_over(&b),
     }
 }
 
@@ -415,6 +442,7 @@ fn step(s: Session) -> Next {
         8 => norm_call(s),
         9 => show_call(s),
         10 => load_call(s),
+        11 => bring_over_call(s),
         _ => stop(s),
     }
 }
@@ -428,7 +456,7 @@ fn nothing() -> Session {
         [0.0; image::VECTOR],
         [0.0; image::VECTOR],
         0.0,
-        0.0,
+        [0.0; image::VECTOR],
         History::Missing,
         [0.0; image::VECTOR],
     );

@@ -8,10 +8,11 @@ use lib.Dec.{eqb}
 use borrow.Author.Tests.{ne-eqb}
 use lib.IntN.{ℤ}
 use lib.Ieee.{Float, nan, inf, fin, isNan, lt, eq, le, div, ofBits, ofFields, odd, binary64, round, unlike, up, down}
+use Rattle.loops.specs.Loop.{_!_}
 use Rattle.float.specs.Arith.{_⊘_, zero+, epsilon, most}
 use Rattle.float.proofs.Plus.{round-number}
 use Rattle.float.proofs.Order.{not-lt-le, le-self, le-number, most-number, zero-number, epsilon-number}
-use Rattle.engine.specs.Engine.{thousandth, hundredth, rate, estimate, clamp, firstStep}
+use Rattle.engine.specs.Engine.{thousandth, hundredth, rate, estimate, clamp, byRates, firstStep}
 use Rattle.engine.specs.Claims.{Between, FirstStepBetween}
 
 -- ---- the estimate is no NaN
@@ -54,13 +55,16 @@ clamp-between x largest h k =
     lowered y largest (r .0) (r .1) k (lt largest y) refl
 
 -- ---- THE CLAIM: the scale starts from +0.0 and passes NaNs over, so it is a number
-pub first-step-between : FirstStepBetween
-unfolding firstStep
-first-step-between n relative absolute state derivative largest k =
-    let rates = rate relative absolute state derivative in
+rates-between : (n : ℕ) (rates : ℕ → Float) (largest : Float) → le epsilon largest ≡ true → Between largest (byRates n rates largest)
+unfolding byRates
+rates-between n rates largest k =
     clamp-between (estimate (most n rates zero+)) largest (estimate-number (most n rates zero+) (most-number n rates zero+ zero-number)) k
 
+pub first-step-between : FirstStepBetween
+unfolding firstStep
+first-step-between n relative absolute state derivative largest k = rates-between n (λ i. rate relative (absolute ! i) state derivative i) largest k
+
 -- for whoever has the step by another name
-pub first-step-told : (n : ℕ) (relative absolute : Float) (state derivative : List Float) (largest h : Float)
+pub first-step-told : (n : ℕ) (relative : Float) (absolute state derivative : List Float) (largest h : Float)
     → le epsilon largest ≡ true → firstStep n relative absolute state derivative largest ≡ h → Between largest h
 first-step-told n relative absolute state derivative largest h k e = subst (Between largest) e (first-step-between n relative absolute state derivative largest k)

@@ -41,10 +41,17 @@ unfoldable pub ratio : Float → Float → List Float → List Float → List Fl
 ratio relative absolute state candidate error i =
     error ! i ⊘ (absolute ⊕ relative ⊗ larger (abs (state ! i)) (abs (candidate ! i)))
 
--- the root of the mean of their squares
-unfoldable pub errorNorm : ℕ → Float → Float → List Float → List Float → List Float → Float
-errorNorm n relative absolute state candidate error =
-    sqrt (sumOf n (λ i. powi2 (ratio relative absolute state candidate error i)) ⊘ ofInt binary64 (pos n))
+-- the root of the mean of the squares of n ratios
+unfoldable pub rootMean : ℕ → (ℕ → Float) → Float
+rootMean n ratios = sqrt (sumOf n (λ i. powi2 (ratios i)) ⊘ ofInt binary64 (pos n))
+
+-- the Rust's, with one absolute tolerance: the measure where all n are equal (specs/Claims.antt)
+unfoldable pub scaledErrorNorm : ℕ → Float → Float → List Float → List Float → List Float → Float
+scaledErrorNorm n relative absolute state candidate error = rootMean n (ratio relative absolute state candidate error)
+
+-- the error norm: the same with each component's own
+unfoldable pub errorNorm : ℕ → Float → List Float → List Float → List Float → List Float → Float
+errorNorm n relative absolute state candidate error = rootMean n (λ i. ratio relative (absolute ! i) state candidate error i)
 
 -- ---- estimate_initial_step
 
@@ -67,7 +74,14 @@ estimate scale = cond (eq scale zero+) thousandth (hundredth ⊘ scale)
 unfoldable pub clamp : Float → Float → Float
 clamp x largest = let y = cond (lt x epsilon) epsilon x in cond (lt largest y) largest y
 
--- the first step: the scale is the largest rate
-unfoldable pub firstStep : ℕ → Float → Float → List Float → List Float → Float → Float
-firstStep n relative absolute state derivative largest =
-    clamp (estimate (most n (rate relative absolute state derivative) zero+)) largest
+-- the first step that n rates suggest: the scale is the largest of them
+unfoldable pub byRates : ℕ → (ℕ → Float) → Float → Float
+byRates n rates largest = clamp (estimate (most n rates zero+)) largest
+
+-- the Rust's, with one absolute tolerance: the measure where all n are equal (specs/Claims.antt)
+unfoldable pub estimateInitialStep : ℕ → Float → Float → List Float → List Float → Float → Float
+estimateInitialStep n relative absolute state derivative largest = byRates n (rate relative absolute state derivative) largest
+
+-- the first step: the same with each component's own
+unfoldable pub firstStep : ℕ → Float → List Float → List Float → List Float → Float → Float
+firstStep n relative absolute state derivative largest = byRates n (λ i. rate relative (absolute ! i) state derivative i) largest

@@ -126,23 +126,23 @@ fn ratio(relative: f64, absolute: f64, u: f64, v: f64, e: f64) -> f64
     e / (absolute + relative * size)
 }
 
-// The error norm.
+// The error norm, each component by its own tolerance.
 pub fn scaled_error_norm(
     n: usize,
     relative: f64,
-    absolute: f64,
+    absolute: &[f64],
     state: &[f64],
     candidate: &[f64],
     error: &[f64],
 ) -> f64
     requires { ⌜ 1 ≤ n ⌝ }
     requires { ⌜ n ≤ places ⌝ }
-    requires { ⌜ (length (now state) ≡ places) × (length (now candidate) ≡ places) × (length (now error) ≡ places) ⌝ }
-    ensures { λ r. ⌜ r ≡ errorNorm n relative absolute (now (state .entry)) (now (candidate .entry)) (now (error .entry)) ⌝ }
+    requires { ⌜ (length (now absolute) ≡ places) × (length (now state) ≡ places) × (length (now candidate) ≡ places) × (length (now error) ≡ places) ⌝ }
+    ensures { λ r. ⌜ r ≡ errorNorm n «relative» (now (absolute .entry)) (now (state .entry)) (now (candidate .entry)) (now (error .entry)) ⌝ }
 {
-    let mut sum = float::powi2(ratio(relative, absolute, state[0], candidate[0], error[0]));
+    let mut sum = float::powi2(ratio(relative, absolute[0], state[0], candidate[0], error[0]));
     for i in 1..n {
-        sum = sum + float::powi2(ratio(relative, absolute, state[i], candidate[i], error[i]));
+        sum = sum + float::powi2(ratio(relative, absolute[i], state[i], candidate[i], error[i]));
     }
     float::sqrt(sum / (n as f64))
 }
@@ -177,22 +177,22 @@ fn clamp(x: f64, largest: f64) -> f64
     x
 }
 
-// The first step.
+// The first step, each component by its own tolerance.
 pub fn estimate_initial_step(
     n: usize,
     relative: f64,
-    absolute: f64,
+    absolute: &[f64],
     state: &[f64],
     derivative: &[f64],
     largest: f64,
 ) -> f64
     requires { ⌜ n ≤ places ⌝ }
-    requires { ⌜ (length (now state) ≡ places) × (length (now derivative) ≡ places) ⌝ }
-    ensures { λ r. ⌜ r ≡ firstStep n relative absolute (now (state .entry)) (now (derivative .entry)) largest ⌝ }
+    requires { ⌜ (length (now absolute) ≡ places) × (length (now state) ≡ places) × (length (now derivative) ≡ places) ⌝ }
+    ensures { λ r. ⌜ r ≡ firstStep n «relative» (now (absolute .entry)) (now (state .entry)) (now (derivative .entry)) largest ⌝ }
 {
     let mut scale = 0.0;
     for i in 0..n {
-        scale = float::larger(scale, rate(relative, absolute, state[i], derivative[i]));
+        scale = float::larger(scale, rate(relative, absolute[i], state[i], derivative[i]));
     }
     clamp(estimate(scale), largest)
 }

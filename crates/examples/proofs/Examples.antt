@@ -16,15 +16,15 @@ use Rattle.methods.specs.Tally.{clean, joined}
 use Rattle.methods.specs.Pass.{also, _>>=_, answer, replay}
 use Rattle.methods.specs.Schemes.{lawsonEuler, norsettEuler, etd2, exprb32}
 use Rattle.methods.specs.Step.{pass, questions, finish, performStep}
-use Rattle.engine.specs.Engine.{delta, perturbedEntry, perturbed, jacobianEntry, columnOk, ratio, errorNorm, rate, estimate, clamp, firstStep}
+use Rattle.engine.specs.Engine.{delta, perturbedEntry, perturbed, jacobianEntry, columnOk, ratio, rootMean, errorNorm, rate, estimate, clamp, byRates, firstStep}
 use Rattle.session.specs.Tests.{fault, unless}
 use Rattle.session.specs.Session.{fresh, idle, clear, clearAnswers, usedHistory, usedJacobian, stepClear, wanted, phaseWith, phaseAt, phaseOf, phaseNumber, admits}
-use Rattle.session.specs.Session.{sizeOk, runPlaces, attemptPlaces, good1, historyOk, good2, good7, positive, good4, stepOk, good5, good3, sessionTests}
+use Rattle.session.specs.Session.{sizeOk, runPlaces, attemptPlaces, good1, historyOk, good2, good7, positive, tolerancesOk, good4, stepOk, good5, good3, sessionTests}
 use Rattle.session.specs.Session.{isHeld, pointOf, question, differencing, progressOf, progress}
 use Rattle.session.specs.Calls.{opened, nothing, begun, answered, hasError, readyOf, shown, vectorTests, attemptOf, attemptTests, largestTests}
 use Rattle.session.specs.Calls.{beginTests, supplyTests, firstStepTests, openCall, beginCall, supplyCall, firstStepCall}
 use Rattle.session.specs.Bare.{exponentialTests, normTests, exponentialCall, normCall}
-use Rattle.examples.specs.Examples.{only, lent, running, resting, remembering, begins, supplies, Gives, single, Squares, asked, differenced, jacobianOf, Examples}
+use Rattle.examples.specs.Examples.{only, pair, lent, running, resting, remembering, tolerating, begins, supplies, Gives, single, Squares, asked, differenced, jacobianOf, Examples, OwnTolerances}
 
 -- ---- what is opened to compute
 
@@ -47,18 +47,18 @@ schemes = 0
 -- the differencing, and the tests of a session
 unfoldable tests : ℕ
 unfolding delta perturbedEntry perturbed jacobianEntry columnOk clear clearAnswers usedHistory usedJacobian stepClear wanted phaseWith phaseAt phaseOf phaseNumber admits
-    sizeOk runPlaces attemptPlaces good1 historyOk good2 good7 positive good4 stepOk good5 good3 sessionTests fault unless
+    sizeOk runPlaces attemptPlaces good1 historyOk good2 good7 positive tolerancesOk good4 stepOk good5 good3 sessionTests fault unless
 tests = 0
 
 -- the calls
 unfoldable calls : ℕ
 unfolding isHeld pointOf question differencing progressOf progress fresh idle opened nothing begun answered hasError readyOf shown vectorTests attemptOf attemptTests largestTests
-    beginTests supplyTests firstStepTests openCall beginCall supplyCall firstStepCall only lent running resting remembering begins supplies Gives asked differenced
+    beginTests supplyTests firstStepTests openCall beginCall supplyCall firstStepCall only pair lent running resting remembering tolerating begins supplies Gives asked differenced
 calls = 0
 
 -- the bare calls, the error norm and the first step
 unfoldable bare : ℕ
-unfolding floorRoot nearestRoot root ratio errorNorm rate estimate clamp firstStep exponentialTests normTests exponentialCall normCall single Squares jacobianOf
+unfolding floorRoot nearestRoot root ratio rootMean errorNorm rate estimate clamp byRates firstStep exponentialTests normTests exponentialCall normCall single Squares jacobianOf
 bare = 0
 
 -- ---- THE STATEMENT
@@ -92,3 +92,7 @@ examples = record {
   refused-6 = refl;
   refused-7 = refl;
 }
+
+pub own-tolerances : OwnTolerances
+unfolding doubles matrices tests calls bare
+own-tolerances = record { errorNorm = refl; firstStep = refl; refused-1 = refl; refused-4 = refl }

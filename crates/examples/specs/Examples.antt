@@ -1,4 +1,5 @@
--- Document 01's 'Proved examples', and the examples of its table of refusals, as one statement over the calls. Definitions only: proofs/Examples.antt evaluates each line.
+-- Document 01's 'Proved examples', the examples of its table of refusals, and tolerances of their own (request 1), as one statement over the calls. Definitions only:
+-- proofs/Examples.antt evaluates each line.
 use Prim.Native.Nat.{ℕ}
 use mathlib.Core.Path.{_≡_}
 use mathlib.Core.List.{List, [], _∷_}
@@ -9,7 +10,7 @@ use Rattle.float.specs.Arith.{_⊗_, zero+}
 use Rattle.matrix.specs.Matrix.{norm, exponential}
 use Rattle.methods.specs.Numbers.{num, minus, decimal}
 use Rattle.methods.specs.Sizes.{etd2Number, exprb32Number}
-use Rattle.engine.specs.Engine.{jacobianEntry}
+use Rattle.engine.specs.Engine.{jacobianEntry, hundredth}
 use Rattle.session.specs.declared.Session.{Session}
 use Rattle.session.specs.declared.Told.{Told}
 use Rattle.session.specs.declared.Answer.the-variants.{Ask, Ready, FirstStep, Norm, Refused}
@@ -38,7 +39,7 @@ running scheme n relative u f0 history previous = record {
   state = only u;
   derivative = only f0;
   relative = relative;
-  absolute = num 1;
+  absolute = only (num 1);
   history = history;
   previous = previous;
 }
@@ -49,6 +50,25 @@ resting scheme u f0 = openCall (running scheme 1 (num 1) u f0 Missing (replicate
 
 unfoldable pub remembering : ℕ → Float → Float → Float → Told
 remembering scheme u f0 previous = openCall (running scheme 1 (num 1) u f0 Held (only previous))
+
+-- a vector with the entries x and y
+unfoldable pub pair : Float → Float → List Float
+pair x y = x ∷ y ∷ replicate 14 zero+
+
+-- NorsettEuler opened with n = 2 at (1, 1), where the derivative is (2, 4), with the relative tolerance 1 and these absolute ones
+unfoldable pub tolerating : List Float → Told
+tolerating absolute =
+    openCall (record {
+      scheme = 1;
+      n = 2;
+      time = zero+;
+      state = pair (num 1) (num 1);
+      derivative = pair (num 2) (num 4);
+      relative = num 1;
+      absolute = absolute;
+      history = Missing;
+      previous = replicate 16 zero+;
+    })
 
 -- then a step h begun with the Jacobian [j]
 unfoldable pub begins : Told → Float → Float → Outcome
@@ -127,7 +147,7 @@ pub record Examples : Type 0 where
   pub differencing-ready : differenced .told .answer ≡ Ready zero+ 1 1
   pub differencing : jacobianOf (differenced .told .session) ≡ num 4 ∷ []
   -- 'Bare error norm, n = 1, error −3, state and candidate 0, both tolerances 1: 3'
-  pub errorNorm : normCall 1 (num 1) (num 1) (only (minus 3)) (only zero+) (only zero+) ≡ Norm (num 3)
+  pub errorNorm : normCall 1 (num 1) (only (num 1)) (only (minus 3)) (only zero+) (only zero+) ≡ Norm (num 3)
   -- 'First step: tolerances 1 and 1, largest 0.005, gives 0.005'
   pub firstStep : firstStepCall (resting NorsettEuler (num 1) (num 2) .session) (decimal 5 3) .answer ≡ FirstStep (decimal 5 3)
   -- the table's 'open with n = 17'
@@ -144,3 +164,14 @@ pub record Examples : Type 0 where
   pub refused-6 : begins (resting NorsettEuler (num 1) (num 2)) (ofBits binary64 0x4270_0000_0000_0000) (num 1) .told .answer ≡ Refused 6
   -- 'supply to a resting session'
   pub refused-7 : supplyCall (resting NorsettEuler (num 1) (num 2) .session) (only (num 2)) lent .told .answer ≡ Refused 7
+
+-- ---- request 1: each component has its own tolerance
+pub record OwnTolerances : Type 0 where
+  -- the tolerances 1 and 2 divide the errors 1 and 14 into 1 and 7, so the norm is 5
+  pub errorNorm : normCall 2 (num 1) (pair (num 1) (num 2)) (pair (num 1) (num 14)) (pair zero+ zero+) (pair zero+ zero+) ≡ Norm (num 5)
+  -- with 1 and 3 both rates are 1, 2/(1 + 1) and 4/(3 + 1): the first step is 0.01
+  pub firstStep : firstStepCall (tolerating (pair (num 1) (num 3)) .session) (num 1) .answer ≡ FirstStep hundredth
+  -- a tolerance past n
+  pub refused-1 : tolerating (replicate 16 (num 1)) .answer ≡ Refused 1
+  -- the second of two is not positive
+  pub refused-4 : tolerating (pair (num 1) zero+) .answer ≡ Refused 4

@@ -60,6 +60,7 @@ unpack-pack : (s : Session) → Typed s → unpacked (packedNumbers s) (packedFi
 unpack-pack s t =
     ap (λ (k : Head). sessionOf k (packedFigures s)) (numbers-kept s (t .scheme))
     ∙ session-back s (record {
+      absolute = t .absolute .places;
       state = t .state .places;
       derivative = t .derivative .places;
       previous = t .previous .places;

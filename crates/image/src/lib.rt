@@ -1,4 +1,4 @@
-// A session's image, for every program that a session crosses to: 5 numbers, as words, and 628 figures, and where each field stands among them;
+// A session's image, for every program that a session crosses to: 5 numbers, as words, and 643 figures, and where each field stands among them;
 // enums as numbers; and what is told of an answer.
 //
 // A number that its field cannot hold is none that is good: a scheme above 255 counts as 255, a history above 1 as held, an attempt above 2 as
@@ -56,6 +56,14 @@ pub const JACOBIAN_AT: usize = session::JACOBIAN_AT;
 pub const ANSWERS_AT: usize = session::ANSWERS_AT;
 
 pub const FIGURES: usize = session::FIGURES;
+
+// Of the layout before request 1.
+pub const OLD_FIGURES: usize = session::OLD_FIGURES;
+
+// The bytes that an image is saved as: one for each number, eight for each figure.
+pub const BYTES: usize = NUMBERS + 8 * FIGURES;
+
+pub const OLD_BYTES: usize = NUMBERS + 8 * OLD_FIGURES;
 
 // Among the words in which a reply's outcome, refusal and counts cross.
 pub const OUTCOME_AT: usize = 0;

@@ -41,6 +41,9 @@ fn figures() {
     say(b"JACOBIAN_AT", image::JACOBIAN_AT);
     say(b"ANSWERS_AT", image::ANSWERS_AT);
     say(b"FIGURES", image::FIGURES);
+    say(b"OLD_FIGURES", image::OLD_FIGURES);
+    say(b"BYTES", image::BYTES);
+    say(b"OLD_BYTES", image::OLD_BYTES);
 }
 
 fn words() {

@@ -42,22 +42,26 @@ fits l e =
       reply = hears (l .reply) (and-right (numbers && figures) (heard (l .reply)) e);
     }
 
-pub record Vectors (x y z : List Float) : Type 0 where
-  pub first : length x ≡ VECTOR
-  pub second : length y ≡ VECTOR
-  pub third : length z ≡ VECTOR
+pub record Vectors (w x y z : List Float) : Type 0 where
+  pub first : length w ≡ VECTOR
+  pub second : length x ≡ VECTOR
+  pub third : length y ≡ VECTOR
+  pub fourth : length z ≡ VECTOR
 
-pub three : (x y z : List Float) → vectors x y z ≡ true → Vectors x y z
+pub four : (w x y z : List Float) → vectors w x y z ≡ true → Vectors w x y z
 unfolding vectors
-three x y z e =
-    let a = eqb (length x) VECTOR in
-    let b = eqb (length y) VECTOR in
-    let c = eqb (length z) VECTOR in
-    let both = and-left (a && b) c e in
+four w x y z e =
+    let a = eqb (length w) VECTOR in
+    let b = eqb (length x) VECTOR in
+    let c = eqb (length y) VECTOR in
+    let d = eqb (length z) VECTOR in
+    let three = and-left (a && b && c) d e in
+    let both = and-left (a && b) c three in
     record {
-      first = eqb-true (length x) VECTOR (and-left a b both);
-      second = eqb-true (length y) VECTOR (and-right a b both);
-      third = eqb-true (length z) VECTOR (and-right (a && b) c e);
+      first = eqb-true (length w) VECTOR (and-left a b both);
+      second = eqb-true (length x) VECTOR (and-right a b both);
+      third = eqb-true (length y) VECTOR (and-right (a && b) c three);
+      fourth = eqb-true (length z) VECTOR (and-right (a && b && c) d e);
     }
 
 -- what the tests of a call show: the slices fit
@@ -68,5 +72,5 @@ tested a l f h = fits l (sym f ∙ and-right a _ h)
 pub right-two : (a b c d : ℕ) → a ≡ b → c ≡ d → (eqb a b && eqb c d) ≡ true
 right-two a b c d e f = rw (eq-eqb a b e, eq-eqb c d f)
 
-pub right-four : (a b c d m n : ℕ) → a ≡ m → b ≡ n → c ≡ n → d ≡ n → (eqb a m && eqb b n && eqb c n && eqb d n) ≡ true
-right-four a b c d m n e f g h = rw (eq-eqb a m e, eq-eqb b n f, eq-eqb c n g, eq-eqb d n h)
+pub right-five : (a b c d e m n : ℕ) → a ≡ m → b ≡ n → c ≡ n → d ≡ n → e ≡ n → (eqb a m && eqb b n && eqb c n && eqb d n && eqb e n) ≡ true
+right-five a b c d e m n o p q r s = rw (eq-eqb a m o, eq-eqb b n p, eq-eqb c n q, eq-eqb d n r, eq-eqb e n s)

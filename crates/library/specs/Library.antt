@@ -7,7 +7,8 @@ use lib.Dec.{eqb}
 use lib.Ieee.{Float}
 use lib.ListN.{length}
 use Rattle.session.specs.Figures.{FIGURES}
-use Rattle.image.specs.Image.{VECTOR, NUMBERS, WORDS, unpacked, packedNumbers, packedFigures}
+use Rattle.session.specs.Old.{oldFigures, oldSessionOf, broughtOver}
+use Rattle.image.specs.Image.{VECTOR, NUMBERS, WORDS, headIn, unpacked, packedNumbers, packedFigures}
 use Rattle.session.specs.declared.Session.{Session}
 use Rattle.session.specs.declared.Told.{Told}
 use Rattle.session.specs.declared.Answer.{Answer}
@@ -46,9 +47,9 @@ heard r = eqb (length (r .words)) WORDS && eqb (length (r .told)) 1
 unfoldable pub fitting : Slices → Bool
 fitting l = eqb (length (l .numbers)) NUMBERS && eqb (length (l .figures)) FIGURES && heard (l .reply)
 
--- whether three vectors have
-unfoldable pub vectors : List Float → List Float → List Float → Bool
-vectors x y z = eqb (length x) VECTOR && eqb (length y) VECTOR && eqb (length z) VECTOR
+-- whether four vectors have
+unfoldable pub vectors : List Float → List Float → List Float → List Float → Bool
+vectors w x y z = eqb (length w) VECTOR && eqb (length x) VECTOR && eqb (length y) VECTOR && eqb (length z) VECTOR
 
 -- the same as facts
 pub record Hears (r : Room) : Type 0 where
@@ -76,6 +77,11 @@ pub record Opened (t : Told) (after : Slices) : Type 0 where
   pub numbers : after .numbers ≡ packedNumbers (t .session)
   pub figures : after .figures ≡ packedFigures (t .session)
   pub said : Said (t .answer) (after .reply)
+
+-- a session of the old layout, brought over: the figures of today, and the session that they hold beside its numbers
+pub record Brought (numbers : List ℕ) (old figures' : List Float) : Type 0 where
+  pub figures : figures' ≡ packedFigures (broughtOver (oldSessionOf (headIn numbers) old))
+  pub session : unpacked numbers figures' ≡ broughtOver (oldSessionOf (headIn numbers) old)
 
 -- a session's call: numbers and figures as they came where it is refused, otherwise the session returned
 pub record Back (t : Told) (before after : Slices) : Type 0 where
@@ -105,6 +111,11 @@ Crossing false code made untouched = (code ≡ 1) × untouched
 -- an open
 abbrev pub Open : Bool → Told → ℕ → Slices → Slices → Type 0
 Open fits t code before after = Crossing (fits && fitting before) code (Opened t after) (after ≡ before)
+
+-- a bring-over
+abbrev pub BringOver : ℕ → List ℕ → List Float → List Float → List Float → Type 0
+BringOver code numbers old figures figures' =
+    Crossing (eqb (length numbers) NUMBERS && (eqb (length old) oldFigures && eqb (length figures) FIGURES)) code (Brought numbers old figures') (figures' ≡ figures)
 
 -- a call on the session that the slices hold
 abbrev pub Call : Bool → (Session → Told) → ℕ → Slices → Slices → Type 0

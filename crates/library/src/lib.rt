@@ -7,13 +7,13 @@
 //
 // A call works on the figures that it is lent, copies no session, and writes only what changes. A refused call leaves numbers, figures and
 // output as they were. A refused open overwrites numbers and figures, whatever they held: they become those of the session that a refused open
-// gives, which any call refuses.
+// gives, which any call refuses. Bringing a session over tells nothing but its code.
 ghost use mathlib.Core.Path.{_≡_};
 ghost use mathlib.Core.Bool.{true, cond};
 ghost use lib.Dec.{eqb};
 ghost use lib.ListN.{length};
 ghost use Rattle.image.specs.Image.{VECTOR, MATRIX, NUMBERS, schemeOf, historyOf, wishOf, packed};
-ghost use Rattle.library.specs.Library.{room, slices, heard, fitting, vectors, Hears, Said, Open, Call, CallLent, Ask, Bared, BaredLent};
+ghost use Rattle.library.specs.Library.{room, slices, heard, fitting, vectors, Hears, Said, Open, BringOver, Call, CallLent, Ask, Bared, BaredLent};
 ghost use Rattle.session.specs.Calls.{openCall, beginCall, supplyCall, acceptCall, dropCall, firstStepCall};
 ghost use Rattle.session.specs.Bare.{exponentialCall, phiCall, normCall};
 ghost use Rattle.session.specs.Values.{isRefused};
@@ -44,11 +44,14 @@ fn sized(x: &[f64], n: usize) -> bool
     x.len() == n
 }
 
-// Whether three vectors have their lengths.
-fn three(x: &[f64], y: &[f64], z: &[f64]) -> bool
-    ensures { λ r. ⌜ r ≡ vectors (now (x .entry)) (now (y .entry)) (now (z .entry)) ⌝ }
+// Whether four vectors have their lengths.
+fn four(w: &[f64], x: &[f64], y: &[f64], z: &[f64]) -> bool
+    ensures { λ r. ⌜ r ≡ vectors (now (w .entry)) (now (x .entry)) (now (y .entry)) (now (z .entry)) ⌝ }
 {
-    (x.len() == image::VECTOR) & (y.len() == image::VECTOR) & (z.len() == image::VECTOR)
+    (w.len() == image::VECTOR)
+        & (x.len() == image::VECTOR)
+        & (y.len() == image::VECTOR)
+        & (z.len() == image::VECTOR)
 }
 
 // ---- what is told
@@ -91,7 +94,7 @@ pub extern "C" fn vunchrem_open(
     held: u64,
     time: f64,
     relative: f64,
-    absolute: f64,
+    absolute: &[f64],
     state: &[f64],
     derivative: &[f64],
     previous: &[f64],
@@ -100,7 +103,7 @@ pub extern "C" fn vunchrem_open(
     words: &mut [u64],
     told: &mut [f64],
 ) -> u32
-    ensures { λ r. ⌜ Open (vectors (now (state .entry)) (now (derivative .entry)) (now (previous .entry)))
+    ensures { λ r. ⌜ Open (vectors (now (absolute .entry)) (now (state .entry)) (now (derivative .entry)) (now (previous .entry)))
         (openCall (record {
           scheme = schemeOf scheme;
           n = n;
@@ -108,14 +111,14 @@ pub extern "C" fn vunchrem_open(
           state = now (state .entry);
           derivative = now (derivative .entry);
           relative = «relative»;
-          absolute = «absolute»;
+          absolute = now (absolute .entry);
           history = historyOf held;
           previous = now (previous .entry);
         })) r
         (slices (now (numbers .entry)) (now (figures .entry)) (now (words .entry)) (now (told .entry)))
         (slices (now (numbers .exit)) (now (figures .exit)) (now (words .exit)) (now (told .exit))) ⌝ }
 {
-    if three(state, derivative, previous) & lent(&*numbers, &*figures, &*words, &*told) {
+    if four(absolute, state, derivative, previous) & lent(&*numbers, &*figures, &*words, &*told) {
         let left = Head::open(
             image::scheme_of(scheme),
             n as usize,
@@ -133,6 +136,21 @@ pub extern "C" fn vunchrem_open(
         say(answer, words, told);
         image::put_numbers(k, numbers);
         return 0;
+    }
+    1
+}
+
+// Fills the figures from those that a session of the layout before request 1 had, 628 of them: its tolerance is copied n times. Its numbers stay
+// as they are, and nothing is judged: the next call judges the session.
+#[no_mangle]
+pub extern "C" fn vunchrem_bring_over(numbers: &[u64], old: &[f64], figures: &mut [f64]) -> u32
+    ensures { λ r. ⌜ BringOver r (now (numbers .entry)) (now (old .entry)) (now (figures .entry)) (now (figures .exit)) ⌝ }
+{
+    if numbers.len() == image::NUMBERS {
+        let k = image::head_in(numbers);
+        if k.bring_over(old, figures) {
+            return 0;
+        }
     }
     1
 }
@@ -306,22 +324,22 @@ pub extern "C" fn vunchrem_phi_action(
 pub extern "C" fn vunchrem_error_norm(
     n: u64,
     relative: f64,
-    absolute: f64,
+    absolute: &[f64],
     error: &[f64],
     state: &[f64],
     candidate: &[f64],
     words: &mut [u64],
     told: &mut [f64],
 ) -> u32
-    ensures { λ r. ⌜ Bared (vectors (now (error .entry)) (now (state .entry)) (now (candidate .entry)))
-        (normCall n «relative» «absolute» (now (error .entry)) (now (state .entry)) (now (candidate .entry))) r
+    ensures { λ r. ⌜ Bared (vectors (now (absolute .entry)) (now (error .entry)) (now (state .entry)) (now (candidate .entry)))
+        (normCall n «relative» (now (absolute .entry)) (now (error .entry)) (now (state .entry)) (now (candidate .entry))) r
         (room (now (words .entry)) (now (told .entry))) (room (now (words .exit)) (now (told .exit))) ⌝ }
 {
-    if three(error, state, candidate) & hearing(&*words, &*told) {
+    if four(absolute, error, state, candidate) & hearing(&*words, &*told) {
         let answer = session::error_norm(
             n as usize,
             relative,
-            absolute,
+            image::vector_of(absolute),
             image::vector_of(error),
             image::vector_of(state),
             image::vector_of(candidate),

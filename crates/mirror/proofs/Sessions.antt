@@ -11,7 +11,7 @@ use Rattle.loops.specs.Loop.{_!_}
 use Rattle.float.proofs.Sums.{sum-ext, most-ext}
 use Rattle.float.specs.Arith.{_⊕_, _⊗_, _⊘_, zero+, finite, abs, larger, powi2}
 use Rattle.float.specs.Root.{sqrt}
-use Rattle.engine.specs.Engine.{ratio, errorNorm, rate, estimate, clamp, firstStep}
+use Rattle.engine.specs.Engine.{ratio, rootMean, errorNorm, rate, estimate, clamp, byRates, firstStep}
 use Rattle.session.specs.declared.Session.{Session}
 use Rattle.session.specs.declared.History.{History}
 use Rattle.session.specs.declared.History.the-variants.{Missing, Held}
@@ -19,7 +19,7 @@ use Rattle.session.specs.declared.Attempt.{Attempt}
 use Rattle.session.specs.declared.Attempt.the-variants.{None, Supplied, Differenced}
 use Rattle.session.specs.declared.Wants.{Wants}
 use Rattle.session.specs.Tests.{fault}
-use Rattle.session.specs.Session.{Run, Trial, joined, fresh, idle, usedHistory, usedJacobian, sizeOk, stepClear, runPlaces, attemptPlaces}
+use Rattle.session.specs.Session.{Run, Trial, joined, fresh, idle, clear, usedHistory, usedJacobian, sizeOk, stepClear, runPlaces, attemptPlaces}
 use Rattle.session.specs.Session.{good1, good2, good3, good4, good5, good7, phaseOf, sessionTests, isHeld, pointOf, progressOf, progress}
 use Rattle.session.specs.Calls.{opened, nothing, begun, rested, answered, moved}
 use Rattle.mirror.specs.Mirror.{within}
@@ -37,7 +37,7 @@ isDifferenced Differenced = true
 -- ---- two runs, two attempts, two sessions
 
 pub data Runs (n : ℕ) (σ : ℕ → Bool) : Run → Run → Type 0 where
-  run-m : (k : ℕ) (t rtol atol : Float) (held : History) {u u' f f' w w' : List Float}
+  run-m : (k : ℕ) (t rtol : Float) (atol : List Float) (held : History) {u u' f f' w w' : List Float}
       → Placed (within n) σ u u' → Placed (within n) σ f f' → Placed (within (usedHistory held n)) σ w w'
       → Runs n σ
       (record { scheme = k; n = n; time = t; state = u; derivative = f; relative = rtol; absolute = atol; history = held; previous = w })
@@ -73,7 +73,7 @@ module _ {n : ℕ} {σ : ℕ → Bool} where
   unfolding good1 runPlaces attemptPlaces
   good1-m (live N (run-m k t rtol atol held U F W) (trial-m h a c D J R)) =
       λ i. cond (sizeOk n)
-      ((clear-p n U i && clear-p n F i && clear-p (usedHistory held n) W i) && (stepClear a h && clear-p (usedJacobian a n) J i && clear-answers c n R i))
+      ((clear n atol && clear-p n U i && clear-p n F i && clear-p (usedHistory held n) W i) && (stepClear a h && clear-p (usedJacobian a n) J i && clear-answers c n R i))
       false
 
   good2-m : {s s' : Session} → Lives n σ s s' → good2 s ≡ good2 s'
@@ -108,18 +108,20 @@ module _ {n : ℕ} {σ : ℕ → Bool} where
       ap₂ (λ (a b : Float). powi2 (e ! i ⊘ (atol ⊕ rtol ⊗ larger a b))) (abs-m (U .below i h)) (abs-m (X .below i h))
       ∙ square-m (div-m (E .below i h) (atol ⊕ rtol ⊗ larger (abs (u' ! i)) (abs (x' ! i))))
 
-  pub norm-m : (rtol atol : Float) {u u' x x' e e' : List Float} → Vecs n σ u u' → Vecs n σ x x' → Vecs n σ e e' → errorNorm n rtol atol u x e ≡ errorNorm n rtol atol u' x' e'
-  unfolding errorNorm
-  norm-m rtol atol U X E = ap (λ (z : Float). sqrt (z ⊘ ofInt binary64 (pos n))) (sum-ext n _ _ (ratio-m rtol atol U X E))
+  pub norm-m : (rtol : Float) (atol : List Float) {u u' x x' e e' : List Float} → Vecs n σ u u' → Vecs n σ x x' → Vecs n σ e e'
+      → errorNorm n rtol atol u x e ≡ errorNorm n rtol atol u' x' e'
+  unfolding errorNorm rootMean
+  norm-m rtol atol U X E = ap (λ (z : Float). sqrt (z ⊘ ofInt binary64 (pos n))) (sum-ext n _ _ (λ i h. ratio-m rtol (atol ! i) U X E i h))
 
   rate-m : (rtol atol : Float) {u u' f f' : List Float} → Vecs n σ u u' → Vecs n σ f f' → (i : ℕ) → i < n → rate rtol atol u f i ≡ rate rtol atol u' f' i
   unfolding rate
   rate-m rtol atol {u} {u'} {f} {f'} U F i h =
       ap (λ (a : Float). abs (f ! i ⊘ (atol ⊕ rtol ⊗ a))) (abs-m (U .below i h)) ∙ abs-m (div-m (F .below i h) (atol ⊕ rtol ⊗ abs (u' ! i)))
 
-  pub first-m : (rtol atol largest : Float) {u u' f f' : List Float} → Vecs n σ u u' → Vecs n σ f f' → firstStep n rtol atol u f largest ≡ firstStep n rtol atol u' f' largest
-  unfolding firstStep
-  first-m rtol atol largest U F = ap (λ (z : Float). clamp (estimate z) largest) (most-ext n _ _ zero+ (rate-m rtol atol U F))
+  pub first-m : (rtol : Float) (atol : List Float) (largest : Float) {u u' f f' : List Float} → Vecs n σ u u' → Vecs n σ f f'
+      → firstStep n rtol atol u f largest ≡ firstStep n rtol atol u' f' largest
+  unfolding firstStep byRates
+  first-m rtol atol largest U F = ap (λ (z : Float). clamp (estimate z) largest) (most-ext n _ _ zero+ (λ i h. rate-m rtol (atol ! i) U F i h))
 
   -- ---- the attempt, as far as its answers go
   history-m : {w w' : List Float} (held : History) → Placed (within (usedHistory held n)) σ w w' → isHeld held ≡ true → Vecs n σ w w'

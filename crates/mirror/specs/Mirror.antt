@@ -95,7 +95,7 @@ pub record Alike (used turned : ℕ → Bool) (x y : List Float) : Type 0 where
   pub inUse : (p : ℕ) → p < length x → used p ≡ true → Agrees (turned p) (x ! p) (y ! p)
   pub other : (p : ℕ) → p < length x → used p ≡ false → x ! p ≡ y ! p
 
--- 'the rest of the session is equal to the bit': the run
+-- 'the rest of the session is equal to the bit', the sixteen tolerances among it: the run
 pub record MirroredRun (n : ℕ) (turned : ℕ → Bool) (r r' : Run) : Type 0 where
   pub scheme : r .scheme ≡ r' .scheme
   pub size : r .n ≡ r' .n

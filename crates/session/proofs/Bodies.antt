@@ -168,9 +168,10 @@ module _ (k : Head) (x : List Float) {fits : Bool} (wrong : fits ≡ false) {l :
 pub two-long : (a b c d : ℕ) → (eqb a b && eqb c d) ≡ true → (a ≡ b) × (c ≡ d)
 two-long a b c d e = let p = both-true (eqb a b) (eqb c d) e in (eqb-true a b (p .0), eqb-true c d (p .1))
 
-pub four-long : (a b c d m n : ℕ) → (eqb a m && eqb b n && eqb c n && eqb d n) ≡ true → (a ≡ m) × ((b ≡ n) × (c ≡ n) × (d ≡ n))
-four-long a b c d m n e =
-    let p = both-true (eqb a m && eqb b n && eqb c n) (eqb d n) e in
+pub five-long : (a b c d e m n : ℕ) → (eqb a m && eqb b n && eqb c n && eqb d n && eqb e n) ≡ true → (a ≡ m) × ((b ≡ n) × (c ≡ n) × (d ≡ n) × (e ≡ n))
+five-long a b c d e m n t =
+    let o = both-true (eqb a m && eqb b n && eqb c n && eqb d n) (eqb e n) t in
+    let p = both-true (eqb a m && eqb b n && eqb c n) (eqb d n) (o .0) in
     let q = both-true (eqb a m && eqb b n) (eqb c n) (p .0) in
     let r = both-true (eqb a m) (eqb b n) (q .0) in
-    (eqb-true a m (r .0), (eqb-true b n (r .1), eqb-true c n (q .1), eqb-true d n (p .1)))
+    (eqb-true a m (r .0), (eqb-true b n (r .1), eqb-true c n (q .1), eqb-true d n (p .1), eqb-true e n (o .1)))

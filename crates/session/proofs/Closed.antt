@@ -51,6 +51,7 @@ use Rattle.session.proofs.Ends.{Wholes, ended-whole}
 
 pub record Good (s : Session) : Type 0 where
   pub size : sizeOk (s .n) ≡ true
+  pub absolute : clear (s .n) (s .absolute) ≡ true
   pub state : clear (s .n) (s .state) ≡ true
   pub derivative : clear (s .n) (s .derivative) ≡ true
   pub previous : clear (usedHistory (s .history) (s .n)) (s .previous) ≡ true
@@ -78,8 +79,11 @@ pub passed-good : (wants : Wants) (s : Session) → fault (sessionTests wants s)
 passed-good wants s e =
     let one = sized (sizeOk (s .n)) (runPlaces s && attemptPlaces s) (unfold condition sessionTests good1 in session-row wants s e 1) in
     let both = both-true (runPlaces s) (attemptPlaces s) (one .1) in
-    let run = both-true (clear (s .n) (s .state) && clear (s .n) (s .derivative)) (clear (usedHistory (s .history) (s .n)) (s .previous)) (unfold runPlaces in both .0) in
-    let two = both-true (clear (s .n) (s .state)) (clear (s .n) (s .derivative)) (run .0) in
+    let run =
+    both-true (clear (s .n) (s .absolute) && clear (s .n) (s .state) && clear (s .n) (s .derivative)) (clear (usedHistory (s .history) (s .n)) (s .previous))
+    (unfold runPlaces in both .0) in
+    let two = both-true (clear (s .n) (s .absolute) && clear (s .n) (s .state)) (clear (s .n) (s .derivative)) (run .0) in
+    let own = both-true (clear (s .n) (s .absolute)) (clear (s .n) (s .state)) (two .0) in
     let trial =
     both-true (stepClear (s .attempt) (s .step) && clear (usedJacobian (s .attempt) (s .n)) (s .jacobian)) (clearAnswers (s .count) (s .n) (s .answers))
     (unfold attemptPlaces in both .1) in
@@ -97,7 +101,8 @@ passed-good wants s e =
     let first = both-true (finite (s .time)) (allFinite (s .state)) (pair .0) in
     record {
       size = one .0;
-      state = two .0;
+      absolute = own .0;
+      state = own .1;
       derivative = two .1;
       previous = run .1;
       step = head .0;
@@ -121,6 +126,7 @@ unfolding Closed fault sessionTests good1 runPlaces attemptPlaces good2 good3
 good-closed {s} g wants =
     rw (
       g .size,
+      g .absolute,
       g .state,
       g .derivative,
       g .previous,
@@ -159,6 +165,7 @@ begun-good s step w j lent g e =
     let row = attempt-row (s .n) step (attemptOf w) j lent e in
     record {
       size = g .size;
+      absolute = g .absolute;
       state = g .state;
       derivative = g .derivative;
       previous = g .previous;
@@ -184,6 +191,7 @@ answered-good s x lent sixteen g more e =
     let row = vector-row (s .n) x lent e in
     record {
       size = g .size;
+      absolute = g .absolute;
       state = g .state;
       derivative = g .derivative;
       previous = g .previous;
@@ -208,6 +216,7 @@ answered-good s x lent sixteen g more e =
 -- a run at rest: what is asked of its fields
 pub record GoodRun (r : Run) : Type 0 where
   pub size : sizeOk (r .n) ≡ true
+  pub absolute : clear (r .n) (r .absolute) ≡ true
   pub state : clear (r .n) (r .state) ≡ true
   pub derivative : clear (r .n) (r .derivative) ≡ true
   pub previous : clear (usedHistory (r .history) (r .n)) (r .previous) ≡ true
@@ -227,6 +236,7 @@ pub opened-good : (r : Run) → GoodRun r → Good (opened r)
 unfolding opened idle fresh wanted good5 usedJacobian
 opened-good r g = record {
   size = g .size;
+  absolute = g .absolute;
   state = g .state;
   derivative = g .derivative;
   previous = g .previous;
@@ -251,6 +261,7 @@ unfolding rested
 rested-good s g =
     opened-good _ (unfold opened good4 in record {
       size = g .size;
+      absolute = g .absolute;
       state = g .state;
       derivative = g .derivative;
       previous = g .previous;
@@ -284,6 +295,7 @@ moved-good s time x f g good t X G e =
     let row = vector-row (s .n) f true e in
     opened-good _ (unfold opened good4 in record {
       size = good .size;
+      absolute = good .absolute;
       state = vector-clear (X .vector);
       derivative = both-true (clear (s .n) f) true (unfold condition vectorTests in row 1) .0;
       previous = kept-clear s g good G (eqb (s .scheme) etd2Number);

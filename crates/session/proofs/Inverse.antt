@@ -80,20 +80,19 @@ stored-behind ((n, x) ∷ more) p l b e h =
     ∙ stored-behind more (p ++ first n x) (drop n l) (b + n) (length-more p x b n e) (length-drop n l ∙ omega (arith, h))
     ∙ append-assoc p (first n x) (behind more)
 
-set-head : (l : List Float) (a b c d : Float) → 4 ≤ length l → set (set (set (set l 0 a) 1 b) 2 c) 3 d ≡ (a ∷ b ∷ c ∷ d ∷ []) ++ drop 4 l
-set-head [] a b c d h = absurd (omega (arith, h))
-set-head (x0 ∷ []) a b c d h = absurd (omega (arith, h))
-set-head (x0 ∷ x1 ∷ []) a b c d h = absurd (omega (arith, h))
-set-head (x0 ∷ x1 ∷ x2 ∷ []) a b c d h = absurd (omega (arith, h))
-set-head (x0 ∷ x1 ∷ x2 ∷ x3 ∷ xs) a b c d h = refl
+set-head : (l : List Float) (a b c : Float) → 3 ≤ length l → set (set (set l 0 a) 1 b) 2 c ≡ (a ∷ b ∷ c ∷ []) ++ drop 3 l
+set-head [] a b c h = absurd (omega (arith, h))
+set-head (x0 ∷ []) a b c h = absurd (omega (arith, h))
+set-head (x0 ∷ x1 ∷ []) a b c h = absurd (omega (arith, h))
+set-head (x0 ∷ x1 ∷ x2 ∷ xs) a b c h = refl
 
 -- what the stores of put_figures leave
 pub all-stored : (s : Session) (o : List Float) → length o ≡ FIGURES
-    → storedAll (arrays s) stateAt (set (set (set (set o timeAt (s .time)) stepAt (s .step)) relativeAt (s .relative)) absoluteAt (s .absolute)) ≡ figuresOf s
+    → storedAll (arrays s) absoluteAt (set (set (set o timeAt (s .time)) stepAt (s .step)) relativeAt (s .relative)) ≡ figuresOf s
 unfolding figuresOf total
 all-stored s o h =
-    ap (λ (r : List Float). storedAll (arrays s) stateAt r) (set-head o _ _ _ _ (omega arith))
-    ∙ stored-behind (arrays s) (s .time ∷ s .step ∷ s .relative ∷ s .absolute ∷ []) (drop 4 o) stateAt refl (length-drop 4 o ∙ omega arith)
+    ap (λ (r : List Float). storedAll (arrays s) absoluteAt r) (set-head o _ _ _ (omega arith))
+    ∙ stored-behind (arrays s) (s .time ∷ s .step ∷ s .relative ∷ []) (drop 3 o) absoluteAt refl (length-drop 3 o ∙ omega arith)
 
 -- ---- arrays one behind the other, found again
 
@@ -149,6 +148,7 @@ found ((n, x) ∷ more) p b e h (suc j) =
 
 -- what its arrays' types give
 pub record Long (s : Session) : Type 0 where
+  pub absolute : length (s .absolute) ≡ places
   pub state : length (s .state) ≡ places
   pub derivative : length (s .derivative) ≡ places
   pub previous : length (s .previous) ≡ places
@@ -157,15 +157,15 @@ pub record Long (s : Session) : Type 0 where
 
 module _ (s : Session) (t : Long s) where
   -- the j-th array of a session
-  kept : (j : ℕ) → part (figuresOf s) (placeOf (arrays s) stateAt j) (sizeOf (arrays s) j) ≡ arrayOf (arrays s) j
+  kept : (j : ℕ) → part (figuresOf s) (placeOf (arrays s) absoluteAt j) (sizeOf (arrays s) j) ≡ arrayOf (arrays s) j
   unfolding figuresOf Sized
   kept j =
-      found (arrays s) (s .time ∷ s .step ∷ s .relative ∷ s .absolute ∷ []) stateAt refl
-      (t .state, (t .derivative, (t .previous, (t .jacobian, (t .answers, tt))))) j
+      found (arrays s) (s .time ∷ s .step ∷ s .relative ∷ []) absoluteAt refl
+      (t .absolute, (t .state, (t .derivative, (t .previous, (t .jacobian, (t .answers, tt)))))) j
 
   pub session-back : sessionOf (headOf s) (figuresOf s) ≡ s
   unfolding sessionOf figuresOf placeOf sizeOf arrayOf
-  session-back = rw (kept 0, kept 1, kept 2, kept 3, kept 4)
+  session-back = rw (kept 0, kept 1, kept 2, kept 3, kept 4, kept 5)
 
 -- ---- numbers and figures, as a session and back
 
@@ -189,7 +189,7 @@ figures-back k f h =
       set-getD f timeAt nan,
       set-getD f stepAt nan,
       set-getD f relativeAt nan,
-      set-getD f absoluteAt nan,
+      back f absoluteAt places,
       back f stateAt places,
       back f derivativeAt places,
       back f previousAt places,

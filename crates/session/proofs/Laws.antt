@@ -262,10 +262,11 @@ phi-sized n order scaleA a input lent e =
       places = eqb-true lent n (t .1);
     }
 
-pub norm-sized : (n : ℕ) (relative absolute : Float) (error state candidate : List Float) → fault (normTests n relative absolute error state candidate) ≡ 0 → (1 ≤ n) × (n ≤ 16)
+pub norm-sized : (n : ℕ) (relative : Float) (absolute error state candidate : List Float) → fault (normTests n relative absolute error state candidate) ≡ 0 → (1 ≤ n) × (n ≤ 16)
 unfolding sizeOk
 norm-sized n relative absolute error state candidate e =
-    let p = both-true (leb 1 n && leb n 16 && clear n error && clear n state) (clear n candidate)
+    let p = both-true (leb 1 n && leb n 16 && clear n absolute && clear n error && clear n state) (clear n candidate)
     (unfold condition normTests in passes (normTests n relative absolute error state candidate) (unfold numbered normTests in refl) e 1) in
-    let q = both-true (leb 1 n && leb n 16 && clear n error) (clear n state) (p .0) in
-    size-both n (both-true (leb 1 n && leb n 16) (clear n error) (q .0) .0)
+    let q = both-true (leb 1 n && leb n 16 && clear n absolute && clear n error) (clear n state) (p .0) in
+    let t = both-true (leb 1 n && leb n 16 && clear n absolute) (clear n error) (q .0) in
+    size-both n (both-true (leb 1 n && leb n 16) (clear n absolute) (t .0) .0)

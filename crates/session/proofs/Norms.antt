@@ -4,13 +4,13 @@ use mathlib.Core.Path.{_≡_, refl, sym, subst}
 use mathlib.Core.Bool.{Bool, true, false, cond, _&&_}
 use mathlib.Core.List.{List}
 use native.Mathlib.Omega.{arith}
-use lib.Dec.{T, leb, ltb→lt, lt→ltb}
+use lib.Dec.{T, ltb→lt, lt→ltb}
 use lib.Ieee.{Float, nan, inf, fin, binary64, up, down, fits, isNan, lt, odd, ofBits, ofFields}
 use lib.Ieee.Positive.{positive as above0, first-pos}
 use lib.ListN.{length}
 use Rattle.loops.proofs.Bools.{both-true}
 use Rattle.loops.proofs.Loops.{every-at}
-use Rattle.loops.specs.Loop.{_!_}
+use Rattle.loops.specs.Loop.{every, _!_}
 use Rattle.float.specs.Arith.{zero+, finite}
 use Rattle.float.proofs.Order.{zero-number}
 use Rattle.evaluation.specs.Evaluation.{allFinite}
@@ -25,12 +25,12 @@ use Rattle.session.specs.declared.Phase.the-variants.{Rest, Asking}
 use Rattle.session.specs.declared.Wants.{Wants}
 use Rattle.session.specs.declared.Wants.the-variants.{Only}
 use Rattle.session.specs.Tests.{fault, condition, numbered, unless}
-use Rattle.session.specs.Session.{Run, runOf, sizeOk, clear, positive, good4, sessionTests, progress}
+use Rattle.session.specs.Session.{Run, runOf, positive, tolerancesOk, good4, sessionTests, progress}
 use Rattle.session.specs.Calls.{Outcome, refuseLent, begun, answered, attemptOf, hasError, readyOf, shown, beginTests, supplyTests, beginCall, supplyCall}
 use Rattle.session.specs.Bare.{normTests, normCall}
 use Rattle.session.specs.Claims.{Typed, Norms}
 use Rattle.session.proofs.Tests.{passes, unless-either}
-use Rattle.session.proofs.Laws.{size-both, fault-none, begin-passes, supply-passes}
+use Rattle.session.proofs.Laws.{norm-sized, fault-none, begin-passes, supply-passes}
 use Rattle.session.proofs.Closed.{passed-good}
 use Rattle.session.proofs.Ends.{Wholes, ended-whole}
 
@@ -53,32 +53,40 @@ positive-too (fin false m e) h =
     let k : 0 * 1 * down e < m * up e * 1 = ltb→lt (0 * 1 * down e) (m * up e * 1) (subst T (sym h) tt) in
     lt→ltb 0 m (first-pos m (up e) (omega arith))
 
+-- the relative one, and each of n
+positive-all : (n : ℕ) (relative : Float) (absolute : List Float) → tolerancesOk n relative absolute ≡ true
+    → T (above0 relative) × ((i : ℕ) → i < n → T (above0 (absolute ! i)))
+unfolding tolerancesOk
+positive-all n relative absolute e =
+    let p = both-true (positive relative) (every n (λ i. positive (absolute ! i))) e in
+    (positive-too relative (p .0), (λ i l. positive-too (absolute ! i) (every-at n (λ i. positive (absolute ! i)) (p .1) i l)))
+
 -- ---- what the norm of a session rests on
 record Measured (s : Session) : Type 0 where
   some : 1 ≤ s .n
   small : s .n ≤ 16
   relative : T (above0 (s .relative))
-  absolute : T (above0 (s .absolute))
-  double : T (fits binary64 (s .absolute))
+  absolute : (i : ℕ) → i < s .n → T (above0 (s .absolute ! i))
+  double : (i : ℕ) → T (fits binary64 (s .absolute ! i))
   state : Numbers (s .state)
 
 measured : (wants : Wants) (s : Session) → Typed s → fault (sessionTests wants s) ≡ 0 → Measured s
 measured wants s t e =
     let g = passed-good wants s e in
     let n = fault-none wants s e in
-    let p = both-true (positive (s .relative)) (positive (s .absolute)) (unfold good4 in g .tolerances) in
+    let p = positive-all (s .n) (s .relative) (s .absolute) (unfold good4 in g .tolerances) in
     record {
       some = n .some;
       small = n .small;
-      relative = positive-too (s .relative) (p .0);
-      absolute = positive-too (s .absolute) (p .1);
-      double = t .absolute;
+      relative = p .0;
+      absolute = p .1;
+      double = t .absolute .fit;
       state = record { places = t .state .places; finite = g .state-finite };
     }
 
 norm-of : (s : Session) → Measured s → (x e g : List Float) → Wholes (s .n) x e g → isNan (errorNorm (s .n) (s .relative) (s .absolute) (s .state) x e) ≡ false
 norm-of s m x e g w =
-    norm-number (s .relative) (s .absolute) (s .state) x e (m .relative) (m .absolute) (m .double) (s .n) (m .some) (m .small)
+    norm-number (s .relative) (s .state) x e (m .relative) (s .absolute) (s .n) (m .some) (m .small) (m .absolute) (m .double)
     (number-at (s .state) (m .state) (s .n) (m .small))
     (number-at x (record { places = w .candidate .vector .places; finite = w .candidate .numbers }) (s .n) (m .small))
     (number-at e (record { places = w .error .vector .places; finite = w .error .numbers }) (s .n) (m .small))
@@ -123,23 +131,21 @@ run-measured s t e m = record {
   some = subst (λ (r : Run). 1 ≤ r .n) (sym e) (m .some);
   small = subst (λ (r : Run). r .n ≤ 16) (sym e) (m .small);
   relative = subst (λ (r : Run). T (above0 (r .relative))) (sym e) (m .relative);
-  absolute = subst (λ (r : Run). T (above0 (r .absolute))) (sym e) (m .absolute);
-  double = subst (λ (r : Run). T (fits binary64 (r .absolute))) (sym e) (m .double);
+  absolute = subst (λ (r : Run). (i : ℕ) → i < r .n → T (above0 (r .absolute ! i))) (sym e) (m .absolute);
+  double = subst (λ (r : Run). (i : ℕ) → T (fits binary64 (r .absolute ! i))) (sym e) (m .double);
   state = subst (λ (r : Run). Numbers (r .state)) (sym e) (m .state);
 }
 
-bare-number : (n : ℕ) (relative absolute : Float) (error state candidate : List Float) → T (fits binary64 absolute) → length error ≡ 16 → length state ≡ 16 → length candidate ≡ 16
+bare-number : (n : ℕ) (relative : Float) (absolute error state candidate : List Float) → ((i : ℕ) → T (fits binary64 (absolute ! i)))
+    → length error ≡ 16 → length state ≡ 16 → length candidate ≡ 16
     → fault (normTests n relative absolute error state candidate) ≡ 0 → isNan (errorNorm n relative absolute state candidate error) ≡ false
-unfolding sizeOk
 bare-number n relative absolute error state candidate f le ls lc h =
     let row = passes (normTests n relative absolute error state candidate) (unfold numbered normTests in refl) h in
-    let p = both-true (leb 1 n && leb n 16 && clear n error && clear n state) (clear n candidate) (unfold condition normTests in row 1) in
-    let q = both-true (leb 1 n && leb n 16 && clear n error) (clear n state) (p .0) in
-    let z = size-both n (both-true (leb 1 n && leb n 16) (clear n error) (q .0) .0) in
-    let t = both-true (positive relative) (positive absolute) (unfold condition normTests in row 4) in
+    let z = norm-sized n relative absolute error state candidate h in
+    let t = positive-all n relative absolute (unfold condition normTests in row 4) in
     let v = both-true (allFinite error && allFinite state) (allFinite candidate) (unfold condition normTests in row 3) in
     let w = both-true (allFinite error) (allFinite state) (v .0) in
-    norm-number relative absolute state candidate error (positive-too relative (t .0)) (positive-too absolute (t .1)) f n (z .0) (z .1)
+    norm-number relative state candidate error (t .0) absolute n (z .0) (z .1) (t .1) f
     (number-at state (record { places = ls; finite = w .1 }) n (z .1))
     (number-at candidate (record { places = lc; finite = v .1 }) n (z .1))
     (number-at error (record { places = le; finite = w .0 }) n (z .1))

@@ -12,7 +12,7 @@ use Rattle.session.specs.declared.Session.{Session}
 use Rattle.session.specs.declared.Wants.the-variants.{Any}
 use Rattle.session.specs.Tests.{Tests, fault}
 use Rattle.session.specs.Session.{Run, jacobianRoom, fresh, idle, clear, clearAnswers, usedHistory, usedJacobian, stepClear, sizeOk, runPlaces, attemptPlaces}
-use Rattle.session.specs.Session.{good1, good2, good3, good4, good5, good7, admits, positive, sessionTests}
+use Rattle.session.specs.Session.{good1, good2, good3, good4, good5, good7, admits, tolerancesOk, sessionTests}
 use Rattle.loops.proofs.Bools.{both-true}
 use Rattle.session.specs.declared.Head.{Head}
 use Rattle.session.specs.declared.Attempt.the-variants.{None}
@@ -28,7 +28,7 @@ one-row false b next k = refl
 module _ (r : Run) where
   -- the places in use of the run
   abbrev pub openPlaces : Bool
-  openPlaces = clear (r .n) (r .state) && clear (r .n) (r .derivative) && clear (usedHistory (r .history) (r .n)) (r .previous)
+  openPlaces = clear (r .n) (r .absolute) && clear (r .n) (r .state) && clear (r .n) (r .derivative) && clear (usedHistory (r .history) (r .n)) (r .previous)
 
   -- its arrays
   abbrev pub openFinite : Bool
@@ -50,7 +50,7 @@ module _ (r : Run) where
   unfolding good3 opened idle fresh
   figures = rw (finite-zeros jacobianRoom, finite-zeros answerRoom) (and-true _ ∙ and-true _)
 
-  tolerances : good4 (opened r) ≡ (positive (r .relative) && positive (r .absolute))
+  tolerances : good4 (opened r) ≡ tolerancesOk (r .n) (r .relative) (r .absolute)
   unfolding good4 opened
   tolerances = refl
 
@@ -60,7 +60,7 @@ module _ (r : Run) where
 
   -- the tests that are left
   pub opening : fault (sessionTests Any (opened r))
-      ≡ fault ((sizeOk (r .n), 1) ∷ (openPlaces, 1) ∷ (good2 (opened r), 2) ∷ (positive (r .relative) && positive (r .absolute), 4)
+      ≡ fault ((sizeOk (r .n), 1) ∷ (openPlaces, 1) ∷ (good2 (opened r), 2) ∷ (tolerancesOk (r .n) (r .relative) (r .absolute), 4)
       ∷ (finite (r .time) && allFinite (r .state) && allFinite (r .derivative) && allFinite (r .previous), 3) ∷ [])
   unfolding sessionTests good7 admits fault
   opening = rw (places, figures, tolerances, no-step) (one-row (sizeOk (r .n)) openPlaces _ 1)

@@ -21,7 +21,7 @@ use Rattle.evaluation.specs.Evaluation.{allFinite}
 use Rattle.evaluation.specs.Sizes.{places, answerRoom}
 use Rattle.session.specs.declared.Session.{Session}
 use Rattle.session.specs.declared.Head.{Head}
-use Rattle.session.specs.Session.{jacobianRoom, good3, positive, good4, good5}
+use Rattle.session.specs.Session.{jacobianRoom, good3, tolerancesOk, good4, good5}
 use Rattle.session.specs.Claims.{Doubles, Typed}
 use Rattle.session.specs.Figures.{FIGURES, timeAt, stepAt, relativeAt, absoluteAt, stateAt, derivativeAt, previousAt, jacobianAt, answersAt}
 use Rattle.session.proofs.Blank.{every-split}
@@ -137,8 +137,8 @@ typed-of k x s d = record {
   scheme = s;
   time = d .fit timeAt;
   relative = d .fit relativeAt;
-  absolute = d .fit absoluteAt;
   step = d .fit stepAt;
+  absolute = of absoluteAt places;
   state = of stateAt places;
   derivative = of derivativeAt places;
   previous = of previousAt places;
@@ -172,14 +172,14 @@ finite-split x at m n =
     ∙ sym (rw (finite-each x at m, finite-each x (at + m) n))
 
 -- the arrays are one stretch
-pub all-arrays : (k : Head) (x : List Float) → length x ≡ FIGURES → allFinite (take 624 (drop stateAt x)) ≡ arraysFinite (sessionOf k x)
+pub all-arrays : (k : Head) (x : List Float) → length x ≡ FIGURES → allFinite (take (FIGURES - stateAt) (drop stateAt x)) ≡ arraysFinite (sessionOf k x)
 unfolding sessionOf
 all-arrays k x e =
-    ap allFinite (slice-part x stateAt 624 (omega arith))
-    ∙ finite-split x stateAt 304 320
-    ∙ ap (λ (b : Bool). b && allFinite (part x answersAt 320)) (finite-split x stateAt 48 256
-    ∙ ap (λ (b : Bool). b && allFinite (part x jacobianAt 256)) (finite-split x stateAt 32 16
-    ∙ ap (λ (b : Bool). b && allFinite (part x previousAt 16)) (finite-split x stateAt 16 16)))
+    ap allFinite (slice-part x stateAt (FIGURES - stateAt) (omega arith))
+    ∙ finite-split x stateAt (answersAt - stateAt) answerRoom
+    ∙ ap (λ (b : Bool). b && allFinite (part x answersAt 320)) (finite-split x stateAt (jacobianAt - stateAt) jacobianRoom
+    ∙ ap (λ (b : Bool). b && allFinite (part x jacobianAt 256)) (finite-split x stateAt (previousAt - stateAt) places
+    ∙ ap (λ (b : Bool). b && allFinite (part x previousAt 16)) (finite-split x stateAt places places)))
 
 -- the test of 3: the time first, then the arrays
 after-all : (t a b c d e : Bool) → (t && (a && b && c && d && e)) ≡ (t && a && b && c && d && e)
@@ -193,9 +193,10 @@ time-then k x {a} {b} e f =
     rw (t, f) (after-all (finite (sessionOf k x .time)) _ _ _ _ _)
 
 -- the tests of 4 and of 5, from what the code reads
-pub run-tolerances : (k : Head) (x : List Float) {b : Bool} → b ≡ (positive (x ! relativeAt) && positive (x ! absoluteAt)) → b ≡ good4 (sessionOf k x)
+pub run-tolerances : (k : Head) (x : List Float) {b : Bool} → length x ≡ FIGURES → b ≡ tolerancesOk (k .n) (x ! relativeAt) (take places (drop absoluteAt x))
+    → b ≡ good4 (sessionOf k x)
 unfolding good4 sessionOf
-run-tolerances k x e = e
+run-tolerances k x l e = e ∙ ap (tolerancesOk (k .n) (x ! relativeAt)) (slice-part x absoluteAt places (omega arith))
 
 pub attempt-step : (k : Head) (x : List Float) {b : Bool} → b ≡ good5 (k .attempt) (x ! stepAt) → b ≡ good5 (sessionOf k x .attempt) (sessionOf k x .step)
 unfolding sessionOf
@@ -230,6 +231,10 @@ module _ (k : Head) (x : List Float) (e : arraysFinite (sessionOf k x) ≡ true)
 
 -- each array as a part of the lent figures
 module _ (k : Head) (x : List Float) (e : length x ≡ FIGURES) where
+  pub absolute-slice : take places (drop absoluteAt x) ≡ sessionOf k x .absolute
+  unfolding sessionOf
+  absolute-slice = slice-part x absoluteAt places (omega arith)
+
   pub state-slice : take places (drop stateAt x) ≡ sessionOf k x .state
   unfolding sessionOf
   state-slice = slice-part x stateAt places (omega arith)

@@ -70,7 +70,7 @@ phi-numbered : (n order : ℕ) (c : Float) (a x : List Float) (lent : ℕ) → n
 unfolding numbered phiTests
 phi-numbered n order c a x lent = refl
 
-norm-numbered : (n : ℕ) (r a : Float) (e s c : List Float) → numbered (normTests n r a e s c) ≡ true
+norm-numbered : (n : ℕ) (r : Float) (a e s c : List Float) → numbered (normTests n r a e s c) ≡ true
 unfolding numbered normTests
 norm-numbered n r a e s c = refl
 

@@ -44,7 +44,7 @@ use Rattle.session.proofs.Drops.{idle-trial}
 
 -- ---- a session by its fields
 pub by-fields : (k : Head) (x : List Float) (s : Session) → k ≡ headOf s → x ! timeAt ≡ s .time → x ! stepAt ≡ s .step → x ! relativeAt ≡ s .relative
-    → x ! absoluteAt ≡ s .absolute → part x stateAt places ≡ s .state → part x derivativeAt places ≡ s .derivative → part x previousAt places ≡ s .previous
+    → part x absoluteAt places ≡ s .absolute → part x stateAt places ≡ s .state → part x derivativeAt places ≡ s .derivative → part x previousAt places ≡ s .previous
     → part x jacobianAt jacobianRoom ≡ s .jacobian → part x answersAt answerRoom ≡ s .answers → sessionOf k x ≡ s
 unfolding sessionOf
 by-fields k x s numbers time step relative absolute state derivative previous jacobian answers = λ i. record {
@@ -207,7 +207,7 @@ module _ (k : Head) (x : List Float) (long : length x ≡ FIGURES) (typed : Type
         (same-figure timeAt (omega arith) (omega arith))
         rest-step
         (same-figure relativeAt (omega arith) (omega arith))
-        (same-figure absoluteAt (omega arith) (omega arith))
+        (same-part absoluteAt places (omega arith) (omega arith))
         (same-part stateAt places (omega arith) (omega arith))
         (same-part derivativeAt places (omega arith) (omega arith))
         (same-part previousAt places (omega arith) (omega arith))
@@ -280,7 +280,7 @@ module _ (k : Head) (x : List Float) (long : length x ≡ FIGURES) (typed : Type
         (before-figure timeAt (omega arith) (omega arith))
         (read-before _ jacobianAt _ _ stepAt (omega arith) ∙ getD-set-same x stepAt step nan (omega arith))
         (before-figure relativeAt (omega arith) (omega arith))
-        (before-figure absoluteAt (omega arith) (omega arith))
+        (before-attempt absoluteAt places (omega arith) (omega arith))
         (before-attempt stateAt places (omega arith) (omega arith))
         (before-attempt derivativeAt places (omega arith) (omega arith))
         (before-attempt previousAt places (omega arith) (omega arith))
@@ -314,7 +314,7 @@ module _ (k : Head) (x : List Float) (long : length x ≡ FIGURES) (y : List Flo
       (read-before _ _ _ x timeAt (omega arith))
       (read-before _ _ _ x stepAt (omega arith))
       (read-before _ _ _ x relativeAt (omega arith))
-      (read-before _ _ _ x absoluteAt (omega arith))
+      (part-before _ _ _ x absoluteAt places (omega arith))
       (part-before _ _ _ x stateAt places (omega arith))
       (part-before _ _ _ x derivativeAt places (omega arith))
       (part-before _ _ _ x previousAt places (omega arith))
@@ -360,6 +360,12 @@ module _ (k : Head) (x : List Float) (long : length x ≡ FIGURES) (r : Session)
   later at n h =
       part-after _ derivativeAt places _ at n (omega arith) ∙ part-after _ stateAt places _ at n (omega arith) ∙ set-part-after timeAt time x at n (omega arith)
 
+  tolerances : part movedFigures absoluteAt places ≡ part x absoluteAt places
+  tolerances =
+      part-before _ derivativeAt places _ absoluteAt places (omega arith)
+      ∙ part-before _ stateAt places _ absoluteAt places (omega arith)
+      ∙ set-part-after timeAt time x absoluteAt places (omega arith)
+
   figure : (p : ℕ) → p < stateAt → p ≢ timeAt → movedFigures ! p ≡ x ! p
   figure p l ne =
       read-before _ derivativeAt places _ p (omega arith) ∙ read-before _ stateAt places _ p l ∙ getD-set-other x timeAt p time nan ne
@@ -389,7 +395,7 @@ module _ (k : Head) (x : List Float) (long : length x ≡ FIGURES) (r : Session)
       now-time
       (figure stepAt (omega arith) (omega arith) ∙ ap (λ (z : Session). z .step) e)
       (figure relativeAt (omega arith) (omega arith) ∙ ap (λ (z : Session). z .relative) e)
-      (figure absoluteAt (omega arith) (omega arith) ∙ ap (λ (z : Session). z .absolute) e)
+      (tolerances ∙ ap (λ (z : Session). z .absolute) e)
       now-state
       now-derivative
       (later previousAt places (omega arith) ∙ ap (λ (z : Session). z .previous) e ∙ (rw other))
@@ -420,7 +426,7 @@ module _ (k : Head) (x : List Float) (long : length x ≡ FIGURES) (r : Session)
       (read-before _ previousAt places movedFigures timeAt (omega arith) ∙ now-time)
       (read-before _ previousAt places movedFigures stepAt (omega arith) ∙ figure stepAt (omega arith) (omega arith) ∙ ap (λ (z : Session). z .step) e)
       (read-before _ previousAt places movedFigures relativeAt (omega arith) ∙ figure relativeAt (omega arith) (omega arith) ∙ ap (λ (z : Session). z .relative) e)
-      (read-before _ previousAt places movedFigures absoluteAt (omega arith) ∙ figure absoluteAt (omega arith) (omega arith) ∙ ap (λ (z : Session). z .absolute) e)
+      (earlier absoluteAt places (omega arith) ∙ tolerances ∙ ap (λ (z : Session). z .absolute) e)
       (earlier stateAt places (omega arith) ∙ now-state)
       (earlier derivativeAt places (omega arith) ∙ now-derivative)
       (rw same (part-put g previousAt places movedFigures places-g (omega (arith, width-3))))
@@ -433,103 +439,117 @@ module _ (k : Head) (x : List Float) (long : length x ≡ FIGURES) (r : Session)
       ap (sessionOf remembering) (c ∙ ap (λ (n : ℕ). stores (λ i _. g ! i) previousAt n z) places-g ∙ ap (stores (λ i _. g ! i) previousAt places) (stored a b))
       ∙ at-etd2 same
 
+-- a vector that is stored whole, over figures that go by another name
+stored-whole : (v : List Float) (at : ℕ) {x y z : List Float} → length v ≡ places → z ≡ stores (λ i _. v ! i) at (length v) y → y ≡ x
+    → z ≡ stores (λ i _. v ! i) at places x
+stored-whole v at {x} {y} l e f = e ∙ ap (λ (n : ℕ). stores (λ i _. v ! i) at n y) l ∙ ap (stores (λ i _. v ! i) at places) f
+
 -- ---- a run that is opened
 
-module _ (x : List Float) (long : length x ≡ FIGURES) (time relative absolute : Float) where
+module _ (x : List Float) (long : length x ≡ FIGURES) (time relative : Float) where
   abbrev head-1 : List Float
   head-1 = set x timeAt time
 
   abbrev head-2 : List Float
   head-2 = set head-1 stepAt zero+
 
-  abbrev head-3 : List Float
-  head-3 = set head-2 relativeAt relative
-
   abbrev pub headFigures : List Float
-  headFigures = set head-3 absoluteAt absolute
+  headFigures = set head-2 relativeAt relative
 
   pub head-long : length headFigures ≡ FIGURES
-  head-long = length-set head-3 absoluteAt absolute ∙ length-set head-2 relativeAt relative ∙ length-set head-1 stepAt zero+ ∙ length-set x timeAt time ∙ long
+  head-long = length-set head-2 relativeAt relative ∙ length-set head-1 stepAt zero+ ∙ length-set x timeAt time ∙ long
 
   head-time : headFigures ! timeAt ≡ time
   head-time =
-      getD-set-other head-3 absoluteAt timeAt absolute nan (omega arith)
-      ∙ getD-set-other head-2 relativeAt timeAt relative nan (omega arith)
+      getD-set-other head-2 relativeAt timeAt relative nan (omega arith)
       ∙ getD-set-other head-1 stepAt timeAt zero+ nan (omega arith)
       ∙ getD-set-same x timeAt time nan (omega arith)
 
   head-step : headFigures ! stepAt ≡ zero+
   head-step =
-      getD-set-other head-3 absoluteAt stepAt absolute nan (omega arith)
-      ∙ getD-set-other head-2 relativeAt stepAt relative nan (omega arith)
+      getD-set-other head-2 relativeAt stepAt relative nan (omega arith)
       ∙ getD-set-same head-1 stepAt zero+ nan (omega (arith, length-set x timeAt time))
 
   head-relative : headFigures ! relativeAt ≡ relative
   head-relative =
-      getD-set-other head-3 absoluteAt relativeAt absolute nan (omega arith)
-      ∙ getD-set-same head-2 relativeAt relative nan (omega (arith, length-set head-1 stepAt zero+, length-set x timeAt time))
+      getD-set-same head-2 relativeAt relative nan (omega (arith, length-set head-1 stepAt zero+, length-set x timeAt time))
 
-  head-absolute : headFigures ! absoluteAt ≡ absolute
-  head-absolute =
-      getD-set-same head-3 absoluteAt absolute nan (omega (arith, length-set head-2 relativeAt relative, length-set head-1 stepAt zero+, length-set x timeAt time))
+  module _ (a u f g : List Float) (places-a : length a ≡ places) (places-u : length u ≡ places) (places-f : length f ≡ places) (places-g : length g ≡ places) where
+    abbrev with-a : List Float
+    with-a = stores (λ i _. a ! i) absoluteAt places headFigures
 
-  module _ (u f g : List Float) (places-u : length u ≡ places) (places-f : length f ≡ places) (places-g : length g ≡ places) where
+    abbrev with-u : List Float
+    with-u = stores (λ i _. u ! i) stateAt places with-a
+
+    abbrev with-f : List Float
+    with-f = stores (λ i _. f ! i) derivativeAt places with-u
+
+    abbrev with-g : List Float
+    with-g = stores (λ i _. g ! i) previousAt places with-f
+
     abbrev runFigures : List Float
-    runFigures =
-        stores (λ _ _. zero+) jacobianAt (jacobianRoom + answerRoom)
-        (stores (λ i _. g ! i) previousAt places (stores (λ i _. f ! i) derivativeAt places (stores (λ i _. u ! i) stateAt places headFigures)))
+    runFigures = stores (λ _ _. zero+) jacobianAt (jacobianRoom + answerRoom) with-g
 
-    two-long : length (stores (λ i _. u ! i) stateAt places headFigures) ≡ FIGURES
-    two-long = length-stores _ stateAt places _ ∙ head-long
+    a-long : length with-a ≡ FIGURES
+    a-long = length-stores _ absoluteAt places _ ∙ head-long
 
-    three-long : length (stores (λ i _. f ! i) derivativeAt places (stores (λ i _. u ! i) stateAt places headFigures)) ≡ FIGURES
-    three-long = length-stores _ derivativeAt places _ ∙ two-long
+    u-long : length with-u ≡ FIGURES
+    u-long = length-stores _ stateAt places _ ∙ a-long
 
-    four-long : length (stores (λ i _. g ! i) previousAt places (stores (λ i _. f ! i) derivativeAt places (stores (λ i _. u ! i) stateAt places headFigures))) ≡ FIGURES
-    four-long = length-stores _ previousAt places _ ∙ three-long
+    f-long : length with-f ≡ FIGURES
+    f-long = length-stores _ derivativeAt places _ ∙ u-long
 
-    head-at : (p : ℕ) → p < stateAt → runFigures ! p ≡ headFigures ! p
+    g-long : length with-g ≡ FIGURES
+    g-long = length-stores _ previousAt places _ ∙ f-long
+
+    head-at : (p : ℕ) → p < absoluteAt → runFigures ! p ≡ headFigures ! p
     head-at p l =
         read-before _ jacobianAt _ _ p (omega arith)
         ∙ read-before _ previousAt places _ p (omega arith)
         ∙ read-before _ derivativeAt places _ p (omega arith)
-        ∙ read-before _ stateAt places _ p l
+        ∙ read-before _ stateAt places _ p (omega arith)
+        ∙ read-before _ absoluteAt places _ p l
+
+    -- the vectors up to u
+    early-part : (at n : ℕ) → at + n ≤ derivativeAt → part runFigures at n ≡ part with-u at n
+    early-part at n l =
+        part-before _ jacobianAt _ _ at n (omega arith)
+        ∙ part-before _ previousAt places _ at n (omega arith)
+        ∙ part-before _ derivativeAt places _ at n l
 
     at-open : (k : Head) → k .attempt ≡ None → k .count ≡ 0
         → sessionOf k runFigures
-        ≡ opened (record { scheme = k .scheme; n = k .n; time = time; state = u; derivative = f; relative = relative; absolute = absolute; history = k .history; previous = g })
+        ≡ opened (record { scheme = k .scheme; n = k .n; time = time; state = u; derivative = f; relative = relative; absolute = a; history = k .history; previous = g })
     unfolding opened idle fresh
     at-open k none zero-count =
         by-fields k runFigures _ (λ i. record { scheme = k .scheme; n = k .n; history = k .history; attempt = none i; count = zero-count i })
         (head-at timeAt (omega arith) ∙ head-time)
         (head-at stepAt (omega arith) ∙ head-step)
         (head-at relativeAt (omega arith) ∙ head-relative)
-        (head-at absoluteAt (omega arith) ∙ head-absolute)
-        (part-before _ jacobianAt _ _ stateAt places (omega arith)
-        ∙ part-before _ previousAt places _ stateAt places (omega arith)
-        ∙ part-before _ derivativeAt places _ stateAt places (omega arith)
-        ∙ part-put u stateAt places headFigures places-u (omega (arith, head-long)))
+        (early-part absoluteAt places (omega arith)
+        ∙ part-before _ stateAt places _ absoluteAt places (omega arith)
+        ∙ part-put a absoluteAt places headFigures places-a (omega (arith, head-long)))
+        (early-part stateAt places (omega arith) ∙ part-put u stateAt places with-a places-u (omega (arith, a-long)))
         (part-before _ jacobianAt _ _ derivativeAt places (omega arith)
         ∙ part-before _ previousAt places _ derivativeAt places (omega arith)
-        ∙ part-put f derivativeAt places _ places-f (omega (arith, two-long)))
-        (part-before _ jacobianAt _ _ previousAt places (omega arith) ∙ part-put g previousAt places _ places-g (omega (arith, three-long)))
-        (part-wiped jacobianAt jacobianRoom jacobianAt (jacobianRoom + answerRoom) _ (omega arith) (omega arith) (omega (arith, four-long)))
-        (part-wiped answersAt answerRoom jacobianAt (jacobianRoom + answerRoom) _ (omega arith) (omega arith) (omega (arith, four-long)))
+        ∙ part-put f derivativeAt places _ places-f (omega (arith, u-long)))
+        (part-before _ jacobianAt _ _ previousAt places (omega arith) ∙ part-put g previousAt places _ places-g (omega (arith, f-long)))
+        (part-wiped jacobianAt jacobianRoom jacobianAt (jacobianRoom + answerRoom) _ (omega arith) (omega arith) (omega (arith, g-long)))
+        (part-wiped answersAt answerRoom jacobianAt (jacobianRoom + answerRoom) _ (omega arith) (omega arith) (omega (arith, g-long)))
 
     -- from what the code leaves
-    pub open-is : {y z w v : List Float} → y ≡ stores (λ i _. u ! i) stateAt (length u) headFigures → z ≡ stores (λ i _. f ! i) derivativeAt (length f) y
+    pub open-is : {b y z w v : List Float} → b ≡ stores (λ i _. a ! i) absoluteAt (length a) headFigures → y ≡ stores (λ i _. u ! i) stateAt (length u) b
+        → z ≡ stores (λ i _. f ! i) derivativeAt (length f) y
         → w ≡ stores (λ i _. g ! i) previousAt (length g) z → v ≡ stores (λ _ _. zero+) jacobianAt (jacobianRoom + answerRoom) w
         → (k : Head) → k .attempt ≡ None → k .count ≡ 0
         → sessionOf k v
-        ≡ opened (record { scheme = k .scheme; n = k .n; time = time; state = u; derivative = f; relative = relative; absolute = absolute; history = k .history; previous = g })
-    open-is {y} {z} {w} {v} a b c d k none zero-count =
-        let one : y ≡ stores (λ i _. u ! i) stateAt places headFigures = a ∙ ap (λ (n : ℕ). stores (λ i _. u ! i) stateAt n headFigures) places-u in
-        let two : z ≡ stores (λ i _. f ! i) derivativeAt places y = b ∙ ap (λ (n : ℕ). stores (λ i _. f ! i) derivativeAt n y) places-f in
-        let three : w ≡ stores (λ i _. g ! i) previousAt places z = c ∙ ap (λ (n : ℕ). stores (λ i _. g ! i) previousAt n z) places-g in
-        let whole : v ≡ runFigures =
-        d ∙ ap (stores (λ _ _. zero+) jacobianAt (jacobianRoom + answerRoom)) (three
-        ∙ ap (stores (λ i _. g ! i) previousAt places) (two ∙ ap (stores (λ i _. f ! i) derivativeAt places) one)) in
-        ap (sessionOf k) whole ∙ at-open k none zero-count
+        ≡ opened (record { scheme = k .scheme; n = k .n; time = time; state = u; derivative = f; relative = relative; absolute = a; history = k .history; previous = g })
+    open-is p q r t v k none zero-count =
+        let one = stored-whole a absoluteAt places-a p refl in
+        let two = stored-whole u stateAt places-u q one in
+        let three = stored-whole f derivativeAt places-f r two in
+        let four = stored-whole g previousAt places-g t three in
+        ap (sessionOf k) (v ∙ ap (stores (λ _ _. zero+) jacobianAt (jacobianRoom + answerRoom)) four) ∙ at-open k none zero-count
 
 -- ---- what a refused open leaves
 
@@ -551,7 +571,7 @@ module _ (x : List Float) (e : length x ≡ FIGURES) where
       (zero-at timeAt (omega arith))
       (zero-at stepAt (omega arith))
       (zero-at relativeAt (omega arith))
-      (zero-at absoluteAt (omega arith))
+      (zeros-at absoluteAt places (omega arith))
       (zeros-at stateAt places (omega arith))
       (zeros-at derivativeAt places (omega arith))
       (zeros-at previousAt places (omega arith))

@@ -15,7 +15,7 @@ use Rattle.engine.specs.Engine.{errorNorm}
 use Rattle.session.specs.declared.Answer.{Answer}
 use Rattle.session.specs.declared.Answer.the-variants.{Filled, Norm, Refused}
 use Rattle.session.specs.Tests.{Tests, fault, unless}
-use Rattle.session.specs.Session.{largest, sizeOk, clear, positive}
+use Rattle.session.specs.Session.{largest, sizeOk, clear, tolerancesOk}
 
 -- what a bare call tells, and what it leaves in the lent output
 pub record Bare : Type 0 where
@@ -52,14 +52,14 @@ phiCall n order scaleA a input out =
     unless (fault (phiTests n order scaleA a input (length out))) (refuseBare out)
     (cond (action .tally .ok) (bare Filled (tab n (λ i. action .v ! i))) (refuseBare out 6))
 
--- a dimension, two tolerances, and three vectors
-unfoldable pub normTests : ℕ → Float → Float → List Float → List Float → List Float → Tests
+-- a dimension, the tolerances, and three vectors
+unfoldable pub normTests : ℕ → Float → List Float → List Float → List Float → List Float → Tests
 normTests n relative absolute error state candidate =
-    (sizeOk n && clear n error && clear n state && clear n candidate, 1)
-    ∷ (positive relative && positive absolute, 4)
+    (sizeOk n && clear n absolute && clear n error && clear n state && clear n candidate, 1)
+    ∷ (tolerancesOk n relative absolute, 4)
     ∷ (allFinite error && allFinite state && allFinite candidate, 3)
     ∷ []
 
-unfoldable pub normCall : ℕ → Float → Float → List Float → List Float → List Float → Answer
+unfoldable pub normCall : ℕ → Float → List Float → List Float → List Float → List Float → Answer
 normCall n relative absolute error state candidate =
     unless (fault (normTests n relative absolute error state candidate)) Refused (Norm (errorNorm n relative absolute state candidate error))

@@ -66,7 +66,7 @@ nothing =
       state = replicate places zero+;
       derivative = replicate places zero+;
       relative = zero+;
-      absolute = zero+;
+      absolute = replicate places zero+;
       history = Missing;
       previous = replicate places zero+;
     })

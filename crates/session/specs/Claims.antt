@@ -1,12 +1,13 @@
--- What follows from the definitions of the calls: counts, closed sessions, drops, the first step and the error norms. Definitions only.
-use Prim.Native.Nat.{ℕ, _<_}
+-- What follows from the definitions of the calls: counts, closed sessions, tolerances, drops, the first step and the error norms. Definitions only.
+use Prim.Native.Nat.{ℕ, _≤_, _<_}
 use mathlib.Core.Path.{_≡_}
-use mathlib.Core.Bool.{false, cond}
+use mathlib.Core.Bool.{true, false, cond}
 use mathlib.Core.List.{List, [], _∷_}
 use lib.Dec.{T}
 use lib.Ieee.{Float, binary64, fits, isNan}
 use lib.ListN.{length}
 use Rattle.loops.specs.Loop.{_!_}
+use Rattle.float.specs.Arith.{plusZero}
 use Rattle.evaluation.specs.Sizes.{places, answerRoom}
 use Rattle.methods.specs.Step.{asking}
 use Rattle.engine.specs.Claims.{Between}
@@ -20,7 +21,7 @@ use Rattle.session.specs.declared.Wants.{Wants}
 use Rattle.session.specs.declared.Wants.the-variants.{Any, Only}
 use Rattle.session.specs.Tests.{fault}
 use Rattle.session.specs.Values.{number}
-use Rattle.session.specs.Session.{Run, jacobianRoom, wantedBy, good7, sessionTests, progress}
+use Rattle.session.specs.Session.{Run, jacobianRoom, wantedBy, good1, good7, positive, good4, sessionTests, progress}
 use Rattle.session.specs.Calls.{tell, nothing, openCall, beginCall, supplyCall, dropCall, firstStepCall}
 use Rattle.session.specs.Bare.{normCall}
 use Rattle.session.specs.Runs.{Call, begin, supply, accept, drop, firstStep, perform, after}
@@ -37,8 +38,8 @@ pub record Typed (s : Session) : Type 0 where
   pub scheme : s .scheme < 256
   pub time : T (fits binary64 (s .time))
   pub relative : T (fits binary64 (s .relative))
-  pub absolute : T (fits binary64 (s .absolute))
   pub step : T (fits binary64 (s .step))
+  pub absolute : Doubles places (s .absolute)
   pub state : Doubles places (s .state)
   pub derivative : Doubles places (s .derivative)
   pub previous : Doubles places (s .previous)
@@ -88,6 +89,16 @@ pub record Closes : Type 0 where
   -- so no call of a run from an accepted opening on meets 1 to 5 because of the session
   pub run : (r : Run) (cs : List Call) → number (openCall r .answer) ≡ 0 → TypedCalls cs → Closed (after (openCall r .session) cs)
 
+-- ---- request 1: each of the n tolerances counts, and no place past them does
+
+pub record Tolerances : Type 0 where
+  -- one of the n that is not finite and positive fails the test of 4
+  pub each : (s : Session) (i : ℕ) → i < s .n → positive (s .absolute ! i) ≡ false → good4 s ≡ false
+  -- where the n and the relative one are, it holds, whatever stands past n
+  pub all : (s : Session) → positive (s .relative) ≡ true → ((i : ℕ) → i < s .n → positive (s .absolute ! i) ≡ true) → good4 s ≡ true
+  -- one past n that is not +0.0 fails the test of 1
+  pub past : (s : Session) → length (s .absolute) ≡ places → (i : ℕ) → s .n ≤ i → i < places → plusZero (s .absolute ! i) ≡ false → good1 s ≡ false
+
 -- ---- drops, and the session of a refused open
 
 -- one supply for each answer and lent output
@@ -119,6 +130,6 @@ pub record Norms : Type 0 where
       → (norm : Float) (rhs jacobians : ℕ) → beginCall s step wish jacobian out .told .answer ≡ Ready norm rhs jacobians → isNan norm ≡ false
   pub supply : (s : Session) (answer out : List Float) → Typed s
       → (norm : Float) (rhs jacobians : ℕ) → supplyCall s answer out .told .answer ≡ Ready norm rhs jacobians → isNan norm ≡ false
-  pub bare : (n : ℕ) (relative absolute : Float) (error state candidate : List Float)
-      → T (fits binary64 absolute) → length error ≡ places → length state ≡ places → length candidate ≡ places
+  pub bare : (n : ℕ) (relative : Float) (absolute error state candidate : List Float)
+      → ((i : ℕ) → T (fits binary64 (absolute ! i))) → length error ≡ places → length state ≡ places → length candidate ≡ places
       → (norm : Float) → normCall n relative absolute error state candidate ≡ Norm norm → isNan norm ≡ false

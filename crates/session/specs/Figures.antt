@@ -23,7 +23,7 @@ abbrev pub absoluteAt : ℕ
 absoluteAt = relativeAt + 1
 
 abbrev pub stateAt : ℕ
-stateAt = absoluteAt + 1
+stateAt = absoluteAt + places
 
 abbrev pub derivativeAt : ℕ
 derivativeAt = stateAt + places
@@ -60,7 +60,7 @@ sessionOf k figures = record {
   state = part figures stateAt places;
   derivative = part figures derivativeAt places;
   relative = figures ! relativeAt;
-  absolute = figures ! absoluteAt;
+  absolute = part figures absoluteAt places;
   history = k .history;
   previous = part figures previousAt places;
   attempt = k .attempt;
@@ -76,7 +76,7 @@ headOf s = record { scheme = s .scheme; n = s .n; history = s .history; attempt 
 -- a session's arrays, each with its size, in the order of their places
 abbrev pub arrays : Session → List (ℕ × List Float)
 arrays s =
-    (places, s .state) ∷ (places, s .derivative) ∷ (places, s .previous) ∷ (jacobianRoom, s .jacobian) ∷ (answerRoom, s .answers) ∷ []
+    (places, s .absolute) ∷ (places, s .state) ∷ (places, s .derivative) ∷ (places, s .previous) ∷ (jacobianRoom, s .jacobian) ∷ (answerRoom, s .answers) ∷ []
 
 -- arrays one behind the other
 unfoldable pub behind : List (ℕ × List Float) → List Float
@@ -84,4 +84,4 @@ behind [] = []
 behind ((n, x) ∷ more) = first n x ++ behind more
 
 unfoldable pub figuresOf : Session → List Float
-figuresOf s = (s .time ∷ s .step ∷ s .relative ∷ s .absolute ∷ []) ++ behind (arrays s)
+figuresOf s = (s .time ∷ s .step ∷ s .relative ∷ []) ++ behind (arrays s)

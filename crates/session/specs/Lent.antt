@@ -24,7 +24,7 @@ use Rattle.session.specs.Figures.{FIGURES, sessionOf, headOf, figuresOf}
 
 -- ---- what the code's steps hand on
 
--- 3, of the arrays
+-- 3, of the arrays that it tests: all but the tolerances
 abbrev pub arraysFinite : Session → Bool
 arraysFinite s = allFinite (s .state) && allFinite (s .derivative) && allFinite (s .previous) && allFinite (s .jacobian) && allFinite (s .answers)
 

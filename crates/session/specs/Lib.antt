@@ -8,3 +8,4 @@ pub mod Bare
 pub mod Runs
 pub mod Refusals
 pub mod Claims
+pub mod Old

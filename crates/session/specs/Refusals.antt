@@ -53,7 +53,7 @@ pub record Numbers : Type 0 where
   pub phiAction : (n order : ℕ) (scaleA : Float) (a input out : List Float)
       → First (phiTests n order scaleA a input (length out) ++ ((phiAction n a scaleA order (vec n (λ i. input ! i)) .tally .ok, 6) ∷ []))
       (number (phiCall n order scaleA a input out .answer))
-  pub errorNorm : (n : ℕ) (relative absolute : Float) (error state candidate : List Float)
+  pub errorNorm : (n : ℕ) (relative : Float) (absolute error state candidate : List Float)
       → First (normTests n relative absolute error state candidate) (number (normCall n relative absolute error state candidate))
 
 -- ---- what a refusal leaves: the session bit for bit as it came, and the lent output unwritten

@@ -49,7 +49,7 @@ pub record Run : Type 0 where
   pub state : List Float
   pub derivative : List Float
   pub relative : Float
-  pub absolute : Float
+  pub absolute : List Float
   pub history : History
   pub previous : List Float
 
@@ -177,7 +177,8 @@ sizeOk n = leb 1 n && leb n places
 
 -- 1, of the run
 unfoldable pub runPlaces : Session → Bool
-runPlaces s = clear (s .n) (s .state) && clear (s .n) (s .derivative) && clear (usedHistory (s .history) (s .n)) (s .previous)
+runPlaces s =
+    clear (s .n) (s .absolute) && clear (s .n) (s .state) && clear (s .n) (s .derivative) && clear (usedHistory (s .history) (s .n)) (s .previous)
 
 -- 1, of the attempt
 unfoldable pub attemptPlaces : Session → Bool
@@ -204,9 +205,13 @@ good7 wants s = admits wants (phaseOf s)
 unfoldable pub positive : Float → Bool
 positive x = finite x && lt zero+ x
 
+-- the relative one, and each of n absolute ones
+unfoldable pub tolerancesOk : ℕ → Float → List Float → Bool
+tolerancesOk n relative absolute = positive relative && every n (λ i. positive (absolute ! i))
+
 -- 4: the tolerances
 unfoldable pub good4 : Session → Bool
-good4 s = positive (s .relative) && positive (s .absolute)
+good4 s = tolerancesOk (s .n) (s .relative) (s .absolute)
 
 -- a step is finite and not zero
 unfoldable pub stepOk : Float → Bool

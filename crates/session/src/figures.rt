@@ -6,7 +6,7 @@ ghost use Rattle.loops.specs.Loop.{stores, _!_};
 ghost use Rattle.float.specs.Arith.{zero+};
 ghost use Rattle.evaluation.specs.Sizes.{places, answerRoom};
 ghost use Rattle.session.specs.Session.{jacobianRoom};
-ghost use Rattle.session.specs.Figures.{timeAt, stepAt, relativeAt, absoluteAt, stateAt, FIGURES, part, figuresOf};
+ghost use Rattle.session.specs.Figures.{timeAt, stepAt, relativeAt, absoluteAt, FIGURES, part, figuresOf};
 use crate::Session;
 use evaluation::PLACES;
 use evaluation::ROOM;
@@ -22,7 +22,7 @@ pub const RELATIVE_AT: usize = STEP_AT + 1;
 
 pub const ABSOLUTE_AT: usize = RELATIVE_AT + 1;
 
-pub const STATE_AT: usize = ABSOLUTE_AT + 1;
+pub const STATE_AT: usize = ABSOLUTE_AT + PLACES;
 
 pub const DERIVATIVE_AT: usize = STATE_AT + PLACES;
 
@@ -33,6 +33,11 @@ pub const JACOBIAN_AT: usize = PREVIOUS_AT + PLACES;
 pub const ANSWERS_AT: usize = JACOBIAN_AT + JACOBIAN;
 
 pub const FIGURES: usize = ANSWERS_AT + ROOM;
+
+// The layout before request 1: as today up to the tolerance, which had one place; then each array behind the one before it.
+pub const OLD_STATE_AT: usize = ABSOLUTE_AT + 1;
+
+pub const OLD_FIGURES: usize = OLD_STATE_AT + 3 * PLACES + JACOBIAN + ROOM;
 
 // Fills all of out from place `at` of x on.
 pub fn get(x: &[f64], at: usize, out: &mut [f64])
@@ -112,14 +117,13 @@ fn put_answers(x: [f64; ROOM], out: &mut [f64], at: usize)
     put(&x, out, at);
 }
 
-fn put_scalars(time: f64, step: f64, relative: f64, absolute: f64, out: &mut [f64])
-    requires { ⌜ stateAt ≤ length (now out) ⌝ }
-    ensures { λ _. ⌜ now (out .exit) ≡ set (set (set (set (now (out .entry)) timeAt «time») stepAt «step») relativeAt «relative») absoluteAt «absolute» ⌝ }
+fn put_scalars(time: f64, step: f64, relative: f64, out: &mut [f64])
+    requires { ⌜ absoluteAt ≤ length (now out) ⌝ }
+    ensures { λ _. ⌜ now (out .exit) ≡ set (set (set (now (out .entry)) timeAt «time») stepAt «step») relativeAt «relative» ⌝ }
 {
     out[TIME_AT] = time;
     out[STEP_AT] = step;
     out[RELATIVE_AT] = relative;
-    out[ABSOLUTE_AT] = absolute;
 }
 
 // All figures of a session.
@@ -127,12 +131,14 @@ pub fn put_session(s: Session, out: &mut [f64])
     requires { ⌜ length (now out) ≡ FIGURES ⌝ }
     ensures { λ _. ⌜ now (out .exit) ≡ figuresOf s ⌝ }
 {
+    let absolute = s.absolute;
     let state = s.state;
     let derivative = s.derivative;
     let previous = s.previous;
     let jacobian = s.jacobian;
     let answers = s.answers;
-    put_scalars(s.time, s.step, s.relative, s.absolute, &mut *out);
+    put_scalars(s.time, s.step, s.relative, &mut *out);
+    put_vector(absolute, &mut *out, ABSOLUTE_AT);
     put_vector(state, &mut *out, STATE_AT);
     put_vector(derivative, &mut *out, DERIVATIVE_AT);
     put_vector(previous, &mut *out, PREVIOUS_AT);

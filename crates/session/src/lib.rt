@@ -4,7 +4,7 @@ ghost use mathlib.Core.Path.{_≡_};
 ghost use mathlib.Core.Bool.{true, cond, _&&_};
 ghost use mathlib.Core.List.{List};
 ghost use Prim.Native.Nat.{ℕ, _+_, _-_, _*_, _≤_, _<_};
-ghost use lib.Dec.{eqb};
+ghost use lib.Dec.{ltb, eqb};
 ghost use lib.Ieee.{Float};
 ghost use lib.ListN.{length, take};
 ghost use Rattle.loops.specs.Loop.{every, stores, _!_};
@@ -15,7 +15,7 @@ ghost use Rattle.methods.specs.Step.{progress as reached};
 ghost use Rattle.float.specs.Arith.{zero+};
 ghost use Rattle.session.specs.Tests.{fault};
 ghost use Rattle.session.specs.Session.{jacobianRoom, clear, usedHistory, usedJacobian, stepClear, wanted, wantedBy, phaseWith, phaseOf, phaseNumber, admits};
-ghost use Rattle.session.specs.Session.{good1, historyOk, good2, good7, positive, stepOk, good4, good5, good3, sessionTests, Sound, attemptPlaces};
+ghost use Rattle.session.specs.Session.{good1, historyOk, good2, good7, positive, tolerancesOk, stepOk, good4, good5, good3, sessionTests, Sound, attemptPlaces};
 ghost use Rattle.session.specs.Session.{isHeld, pointOf, stepped, question, differencing, progress};
 ghost use Rattle.session.specs.Figures.{FIGURES, stateAt, derivativeAt, previousAt, jacobianAt, answersAt, part, sessionOf, headOf, figuresOf};
 ghost use Rattle.session.specs.Calls.{outcome, tell, refuse, opened, nothing, begun, rested, answered, moved, readyOf, answerOf, shown, arrived, settled};
@@ -23,6 +23,7 @@ ghost use Rattle.session.specs.Calls.{vectorTests, attemptOf, attemptTes
 ghost use Rattle.session.specs.Calls.{openCall, beginCall, supplyCall, acceptCall, dropCall, firstStepCall};
 ghost use Rattle.session.specs.Lent.{arraysFinite, unopened, columnOf, columnAsked, steppedFrom, suppliedFrom, toldBy, refusedBy, restingAt, remains, fills};
 ghost use Rattle.session.specs.Lent.{lentCall, lentOpen, lentAsk, lentFill};
+ghost use Rattle.session.specs.Old.{oldFigures, oldSessionOf, copied, broughtOver};
 ghost use Rattle.session.specs.Bare.{bare, exponentialTests, exponentialCall, phiTests, phiCall, normTests, normCall};
 
 mod figures;
@@ -35,6 +36,7 @@ pub use figures::ANSWERS_AT;
 pub use figures::DERIVATIVE_AT;
 pub use figures::FIGURES;
 pub use figures::JACOBIAN_AT;
+pub use figures::OLD_FIGURES;
 pub use figures::PREVIOUS_AT;
 pub use figures::RELATIVE_AT;
 pub use figures::STATE_AT;
@@ -84,6 +86,24 @@ pub enum Answer {
 // A run and its attempt. Entries past n and places not in use are +0.0; the Jacobian fills the first n * n places, row by row; answer k
 // begins at place 16 k.
 pub struct Session {
+    pub scheme: u8,
+    pub n: usize,
+    pub time: f64,
+    pub state: [f64; PLACES],
+    pub derivative: [f64; PLACES],
+    pub relative: f64,
+    pub absolute: [f64; PLACES],
+    pub history: History,
+    pub previous: [f64; PLACES],
+    pub attempt: Attempt,
+    pub step: f64,
+    pub jacobian: [f64; JACOBIAN],
+    pub count: usize,
+    pub answers: [f64; ROOM],
+}
+
+// A session of the layout before request 1: one absolute tolerance for all components.
+pub struct OldSession {
     pub scheme: u8,
     pub n: usize,
     pub time: f64,
@@ -178,19 +198,21 @@ fn step_clear(a: Attempt, step: f64) -> bool
     }
 }
 
-// 1, of the run; `calm` says that every place is finite.
+// 1, of the run; `calm` says that every place is finite but the tolerances, which may not be.
 fn run_places(
     n: usize,
     history: History,
+    absolute: &[f64],
     state: &[f64],
     derivative: &[f64],
     previous: &[f64],
     calm: bool,
 ) -> bool
     requires { ⌜ («calm» ≡ true → allFinite (now state) ≡ true) × («calm» ≡ true → allFinite (now derivative) ≡ true) × («calm» ≡ true → allFinite (now previous) ≡ true) ⌝ }
-    ensures { λ r. ⌜ r ≡ (clear n (now (state .entry)) && clear n (now (derivative .entry)) && clear (usedHistory history n) (now (previous .entry))) ⌝ }
+    ensures { λ r. ⌜ r ≡ (clear n (now (absolute .entry)) && clear n (now (state .entry)) && clear n (now (derivative .entry)) && clear (usedHistory history n) (now (previous .entry))) ⌝ }
 {
-    places::clear(state, n, calm)
+    places::clear(absolute, n, evaluation::all_finite(absolute))
+        & places::clear(state, n, calm)
         & places::clear(derivative, n, calm)
         & places::clear(previous, used_history(history, n), calm)
 }
@@ -223,6 +245,7 @@ fn good1(k: Head, figures: &[f64], calm: bool) -> bool
         return run_places(
             n,
             history,
+            &figures[ABSOLUTE_AT..STATE_AT],
             &figures[STATE_AT..DERIVATIVE_AT],
             &figures[DERIVATIVE_AT..PREVIOUS_AT],
             &figures[PREVIOUS_AT..JACOBIAN_AT],
@@ -310,10 +333,23 @@ fn step_ok(h: f64) -> bool
     float::finite(h) & !(h == 0.0)
 }
 
-fn good4(relative: f64, absolute: f64) -> bool
-    ensures { λ r. ⌜ r ≡ (positive «relative» && positive «absolute») ⌝ }
+// Whether each of the first n is finite and positive.
+fn all_positive(x: &[f64], n: usize) -> bool
+    requires { ⌜ n ≤ length (now x) ⌝ }
+    ensures { λ r. ⌜ r ≡ every n (λ i. positive (now (x .entry) ! i)) ⌝ }
 {
-    positive(relative) & positive(absolute)
+    let mut ok = true;
+    for i in 0..n {
+        ok = ok & positive(x[i]);
+    }
+    ok
+}
+
+fn tolerances_ok(n: usize, relative: f64, absolute: &[f64]) -> bool
+    requires { ⌜ (n ≤ places) × (length (now absolute) ≡ places) ⌝ }
+    ensures { λ r. ⌜ r ≡ tolerancesOk n «relative» (now (absolute .entry)) ⌝ }
+{
+    positive(relative) & all_positive(absolute, n)
 }
 
 fn good5(a: Attempt, step: f64) -> bool
@@ -348,7 +384,7 @@ fn session_fault(wants: Wants, k: Head, figures: &[f64]) -> u8
     }
     let attempt = k.attempt;
     let in_phase = good7(wants, k);
-    let tolerances = good4(figures[RELATIVE_AT], figures[ABSOLUTE_AT]);
+    let tolerances = tolerances_ok(k.n, figures[RELATIVE_AT], &figures[ABSOLUTE_AT..STATE_AT]);
     let step = good5(attempt, figures[STEP_AT]);
     let numbers = float::finite(figures[TIME_AT]) & calm;
     if !in_phase {
@@ -371,11 +407,12 @@ fn run_fault(
     k: Head,
     time: f64,
     relative: f64,
-    absolute: f64,
+    absolute: &[f64],
     state: &[f64],
     derivative: &[f64],
     previous: &[f64],
 ) -> u8
+    requires { ⌜ length (now absolute) ≡ places ⌝ }
     requires { ⌜ (k .attempt ≡ Attempt.None) × (k .count ≡ 0) ⌝ }
     ensures { λ r. ⌜ r ≡ fault (sessionTests Wants.Any (opened (record {
       scheme = k .scheme;
@@ -384,7 +421,7 @@ fn run_fault(
       state = now (state .entry);
       derivative = now (derivative .entry);
       relative = «relative»;
-      absolute = «absolute»;
+      absolute = now (absolute .entry);
       history = k .history;
       previous = now (previous .entry);
     }))) ⌝ }
@@ -397,13 +434,13 @@ fn run_fault(
     if !((1 <= n) & (n <= PLACES)) {
         return 1;
     }
-    if !run_places(n, history, state, derivative, previous, calm) {
+    if !run_places(n, history, absolute, state, derivative, previous, calm) {
         return 1;
     }
     if !good2(k) {
         return 2;
     }
-    if good4(relative, absolute) {
+    if tolerances_ok(n, relative, absolute) {
         if float::finite(time) & calm {
             return 0;
         }
@@ -672,7 +709,7 @@ fn ready_of(k: Head, figures: &[f64], candidate: &[f64], error: &[f64]) -> Answe
         let norm = engine::scaled_error_norm(
             n,
             figures[RELATIVE_AT],
-            figures[ABSOLUTE_AT],
+            &figures[ABSOLUTE_AT..STATE_AT],
             &figures[STATE_AT..DERIVATIVE_AT],
             candidate,
             error,
@@ -815,14 +852,14 @@ fn move_on(
 fn put_run(
     time: f64,
     relative: f64,
-    absolute: f64,
+    absolute: &[f64],
     state: &[f64],
     derivative: &[f64],
     previous: &[f64],
     figures: &mut [f64],
 )
     requires { ⌜ length (now figures) ≡ FIGURES ⌝ }
-    requires { ⌜ (length (now state) ≡ places) × (length (now derivative) ≡ places) × (length (now previous) ≡ places) ⌝ }
+    requires { ⌜ (length (now absolute) ≡ places) × (length (now state) ≡ places) × (length (now derivative) ≡ places) × (length (now previous) ≡ places) ⌝ }
     ensures { λ _. ⌜ ((k : Head) → k .attempt ≡ Attempt.None → k .count ≡ 0 → sessionOf k (now (figures .exit)) ≡ opened (record {
       scheme = k .scheme;
       n = k .n;
@@ -830,7 +867,7 @@ fn put_run(
       state = now (state .entry);
       derivative = now (derivative .entry);
       relative = «relative»;
-      absolute = «absolute»;
+      absolute = now (absolute .entry);
       history = k .history;
       previous = now (previous .entry);
     })) ⌝ }
@@ -838,7 +875,7 @@ fn put_run(
     figures[TIME_AT] = time;
     figures[STEP_AT] = 0.0;
     figures[RELATIVE_AT] = relative;
-    figures[ABSOLUTE_AT] = absolute;
+    figures::put(absolute, &mut *figures, ABSOLUTE_AT);
     figures::put(state, &mut *figures, STATE_AT);
     figures::put(derivative, &mut *figures, DERIVATIVE_AT);
     figures::put(previous, &mut *figures, PREVIOUS_AT);
@@ -904,14 +941,14 @@ fn open_over(
     k: Head,
     time: f64,
     relative: f64,
-    absolute: f64,
+    absolute: &[f64],
     state: &[f64],
     derivative: &[f64],
     previous: &[f64],
     figures: &mut [f64],
 ) -> Left
     requires { ⌜ length (now figures) ≡ FIGURES ⌝ }
-    requires { ⌜ (length (now state) ≡ places) × (length (now derivative) ≡ places) × (length (now previous) ≡ places) ⌝ }
+    requires { ⌜ (length (now absolute) ≡ places) × (length (now state) ≡ places) × (length (now derivative) ≡ places) × (length (now previous) ≡ places) ⌝ }
     requires { ⌜ (k .attempt ≡ Attempt.None) × (k .count ≡ 0) ⌝ }
     ensures { λ r. ⌜ toldBy r (now (figures .exit)) ≡ openCall (record {
       scheme = k .scheme;
@@ -920,7 +957,7 @@ fn open_over(
       state = now (state .entry);
       derivative = now (derivative .entry);
       relative = «relative»;
-      absolute = «absolute»;
+      absolute = now (absolute .entry);
       history = k .history;
       previous = now (previous .entry);
     }) ⌝ }
@@ -1054,7 +1091,7 @@ fn first_step_over(k: Head, figures: &[f64], largest: f64) -> Answer
         let h = engine::estimate_initial_step(
             k.n,
             figures[RELATIVE_AT],
-            figures[ABSOLUTE_AT],
+            &figures[ABSOLUTE_AT..STATE_AT],
             &figures[STATE_AT..DERIVATIVE_AT],
             &figures[DERIVATIVE_AT..PREVIOUS_AT],
             largest,
@@ -1073,13 +1110,13 @@ impl Head {
         state: &[f64],
         derivative: &[f64],
         relative: f64,
-        absolute: f64,
+        absolute: &[f64],
         history: History,
         previous: &[f64],
         figures: &mut [f64],
     ) -> Left
         ensures { λ r. ⌜ remains r (now (figures .exit)) ≡ lentOpen
-            (eqb (length (now (figures .entry))) FIGURES && eqb (length (now (state .entry))) places && eqb (length (now (derivative .entry))) places && eqb (length (now (previous .entry))) places)
+            (eqb (length (now (figures .entry))) FIGURES && eqb (length (now (absolute .entry))) places && eqb (length (now (state .entry))) places && eqb (length (now (derivative .entry))) places && eqb (length (now (previous .entry))) places)
             (now (figures .entry)) (record {
               scheme = scheme;
               n = n;
@@ -1087,12 +1124,13 @@ impl Head {
               state = now (state .entry);
               derivative = now (derivative .entry);
               relative = «relative»;
-              absolute = «absolute»;
+              absolute = now (absolute .entry);
               history = history;
               previous = now (previous .entry);
             }) ⌝ }
     {
         if (figures.len() == FIGURES)
+            & (absolute.len() == PLACES)
             & (state.len() == PLACES)
             & (derivative.len() == PLACES)
             & (previous.len() == PLACES)
@@ -1206,6 +1244,7 @@ impl Session {
     {
         let history = k.history;
         let attempt = k.attempt;
+        let absolute = figures::vector_at(&figures, ABSOLUTE_AT);
         let state = figures::vector_at(&figures, STATE_AT);
         let derivative = figures::vector_at(&figures, DERIVATIVE_AT);
         let previous = figures::vector_at(&figures, PREVIOUS_AT);
@@ -1218,7 +1257,7 @@ impl Session {
             state,
             derivative,
             relative: figures[RELATIVE_AT],
-            absolute: figures[ABSOLUTE_AT],
+            absolute,
             history,
             previous,
             attempt,
@@ -1253,7 +1292,7 @@ impl Session {
         state: [f64; PLACES],
         derivative: [f64; PLACES],
         relative: f64,
-        absolute: f64,
+        absolute: [f64; PLACES],
         history: History,
         previous: [f64; PLACES],
     ) -> Told
@@ -1275,7 +1314,7 @@ impl Session {
             k,
             time,
             relative,
-            absolute,
+            &absolute,
             &state,
             &derivative,
             &previous,
@@ -1330,6 +1369,87 @@ impl Session {
             answer,
             session: self,
         }
+    }
+}
+
+// ---- a session of the old layout
+
+// What place i holds where one tolerance is copied n times.
+fn copied_entry(one: f64, i: usize, n: usize) -> f64
+    ensures { λ r. ⌜ r ≡ cond (ltb i n) one zero+ ⌝ }
+{
+    if i < n { one } else { 0.0 }
+}
+
+// One tolerance in the first n of sixteen places, in all where n is above 16, and +0.0 in the others.
+fn copied(n: usize, one: f64) -> [f64; PLACES]
+    ensures { λ r. ⌜ r ≡ copied n one ⌝ }
+{
+    let mut out = [0.0; PLACES];
+    for i in 0..PLACES {
+        out[i] = copied_entry(one, i, n);
+    }
+    out
+}
+
+impl OldSession {
+    // The session that it is today: its tolerance is copied n times, and nothing is judged.
+    pub fn bring_over(self) -> Session
+        ensures { λ r. ⌜ r ≡ broughtOver self ⌝ }
+    {
+        let absolute = copied(self.n, self.absolute);
+        let state = self.state;
+        let derivative = self.derivative;
+        let history = self.history;
+        let previous = self.previous;
+        let attempt = self.attempt;
+        let jacobian = self.jacobian;
+        let answers = self.answers;
+        Session {
+            scheme: self.scheme,
+            n: self.n,
+            time: self.time,
+            state,
+            derivative,
+            relative: self.relative,
+            absolute,
+            history,
+            previous,
+            attempt,
+            step: self.step,
+            jacobian,
+            count: self.count,
+            answers,
+        }
+    }
+}
+
+// The same over lent figures.
+fn bring_over_figures(n: usize, old: &[f64], figures: &mut [f64])
+    requires { ⌜ (length (now old) ≡ oldFigures) × (length (now figures) ≡ FIGURES) ⌝ }
+    ensures { λ _. ⌜ ((k : Head) → k .n ≡ n → now (figures .exit) ≡ figuresOf (broughtOver (oldSessionOf k (now (old .entry))))) ⌝ }
+{
+    let absolute = copied(n, old[ABSOLUTE_AT]);
+    figures::put(&old[..ABSOLUTE_AT], &mut *figures, TIME_AT);
+    figures::put(&absolute, &mut *figures, ABSOLUTE_AT);
+    figures::put(
+        &old[figures::OLD_STATE_AT..OLD_FIGURES],
+        &mut *figures,
+        STATE_AT,
+    );
+}
+
+impl Head {
+    // Fills the figures from those of the old layout; where a length is another, it tells so and writes nothing.
+    pub fn bring_over(self, old: &[f64], figures: &mut [f64]) -> bool
+        ensures { λ r. ⌜ (r ≡ (eqb (length (now (old .entry))) oldFigures && eqb (length (now (figures .entry))) FIGURES))
+            × (now (figures .exit) ≡ cond r (figuresOf (broughtOver (oldSessionOf self (now (old .entry))))) (now (figures .entry))) ⌝ }
+    {
+        if (old.len() == OLD_FIGURES) & (figures.len() == FIGURES) {
+            bring_over_figures(self.n, old, figures);
+            return true;
+        }
+        false
     }
 }
 
@@ -1408,7 +1528,7 @@ pub fn phi_action(
 fn norm_fault(
     n: usize,
     relative: f64,
-    absolute: f64,
+    absolute: [f64; PLACES],
     error: [f64; PLACES],
     state: [f64; PLACES],
     candidate: [f64; PLACES],
@@ -1420,12 +1540,13 @@ fn norm_fault(
         & evaluation::all_finite(&candidate);
     if !((1 <= n)
         & (n <= PLACES)
+        & places::clear(&absolute, n, evaluation::all_finite(&absolute))
         & places::clear(&error, n, calm)
         & places::clear(&state, n, calm)
         & places::clear(&candidate, n, calm)) {
         return 1;
     }
-    if positive(relative) & positive(absolute) {
+    if tolerances_ok(n, relative, &absolute) {
         if calm {
             return 0;
         }
@@ -1438,7 +1559,7 @@ fn norm_fault(
 pub fn error_norm(
     n: usize,
     relative: f64,
-    absolute: f64,
+    absolute: [f64; PLACES],
     error: [f64; PLACES],
     state: [f64; PLACES],
     candidate: [f64; PLACES],
@@ -1450,7 +1571,7 @@ pub fn error_norm(
         return Answer::Norm(engine::scaled_error_norm(
             n,
             relative,
-            absolute,
+            &absolute,
             &state,
             &candidate,
             &error,

@@ -2,20 +2,21 @@
 use Prim.Native.Nat.{_-_, _≤_}
 use native.Mathlib.Omega.{arith}
 use mathlib.Core.Path.{_≡_}
-use Rattle.engine.specs.Engine.{rate, firstStep}
+use Rattle.engine.specs.Engine.{rate, byRates, firstStep}
 use Rattle.float.proofs.Sums.{most-end, most-none, most-step}
 use Rattle.float.specs.Arith.{zero+, most}
+use Rattle.loops.specs.Loop.{_!_}
 use Rattle.engine.proofs.estimate_initial_step.Statement.{statement}
 use Rattle.engine.proofs.estimate_initial_step.Tie as tie
 
 abbrev Inv-loop : tie.InvT-loop
-Inv-loop n relative absolute u f largest scale₀ i₀ scale i = (i ≤ n) × (scale ≡ most i (rate relative absolute u f) zero+)
+Inv-loop n relative absolute u f largest scale₀ i₀ scale i = (i ≤ n) × (scale ≡ most i (λ i. rate relative (absolute ! i) u f i) zero+)
 
 abbrev μ-loop : tie.MeasureT-loop
 μ-loop n relative absolute u f largest scale₀ i₀ scale i = n - i
 
 pub estimate-initial-step-spec : {M : Type 1} → statement M
-unfolding firstStep rate
+unfolding firstStep byRates rate
 estimate-initial-step-spec =
     tie.close
     (tie.spec
@@ -26,11 +27,13 @@ estimate-initial-step-spec =
     (λ c. omega arith)
     (λ c. omega arith)
     (λ c. omega arith)
+    (λ c. omega arith)
+    (λ c. omega arith)
     (λ c κs. tt)
     (λ c κs. tt)
     (λ c. omega arith)
     (λ c. omega arith)
-    (λ c. (omega arith, most-step _ _ _ _ _ _ (c .before .before .before .before .before .loop .inv .1) (c .before .rate .ensures) (c .larger .ensures)))
+    (λ c. (omega arith, most-step _ _ _ _ _ _ (c .before .before .before .before .before .before .loop .inv .1) (c .before .rate .ensures) (c .larger .ensures)))
     (λ c κs. tt)
     (λ c κs. tt)
-    (λ c. rw (c .clamp .ensures, c .before .estimate .ensures, most-end _ _ _ (c .before .before .before .before .before .before .args .n) _ (c .before .before .before .loop .inv .1) (omega arith))))
+    (λ c. rw (c .clamp .ensures, c .before .estimate .ensures, most-end _ _ _ (c .before .before .before .before .before .before .before .args .n) _ (c .before .before .before .loop .inv .1) (omega arith))))

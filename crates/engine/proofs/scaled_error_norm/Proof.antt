@@ -3,25 +3,27 @@ use Prim.Native.Nat.{_-_, _≤_}
 use native.Mathlib.Omega.{arith}
 use mathlib.Core.Path.{_≡_}
 use Rattle.engine.proofs.Small.{float-small}
-use Rattle.engine.specs.Engine.{ratio, errorNorm}
+use Rattle.engine.specs.Engine.{ratio, rootMean, errorNorm}
 use Rattle.float.proofs.Sums.{sum-end, sum-first, sum-step}
 use Rattle.float.specs.Arith.{powi2, sumOf}
+use Rattle.loops.specs.Loop.{_!_}
 use Rattle.engine.proofs.scaled_error_norm.Statement.{statement}
 use Rattle.engine.proofs.scaled_error_norm.Tie as tie
 
 abbrev Inv-loop : tie.InvT-loop
-Inv-loop n relative absolute u v e sum₀ i₀ sum i = (1 ≤ i) × (i ≤ n) × (sum ≡ sumOf i (λ i. powi2 (ratio relative absolute u v e i)))
+Inv-loop n relative absolute u v e sum₀ i₀ sum i = (1 ≤ i) × (i ≤ n) × (sum ≡ sumOf i (λ i. powi2 (ratio relative (absolute ! i) u v e i)))
 
 abbrev μ-loop : tie.MeasureT-loop
 μ-loop n relative absolute u v e sum₀ i₀ sum i = n - i
 
 pub scaled-error-norm-spec : {M : Type 1} → statement M
-unfolding errorNorm ratio
+unfolding errorNorm rootMean ratio
 scaled-error-norm-spec =
     tie.close
     (tie.spec
     Inv-loop
     μ-loop
+    (λ c. omega arith)
     (λ c. omega arith)
     (λ c. omega arith)
     (λ c. omega arith)
@@ -34,14 +36,16 @@ scaled-error-norm-spec =
     (λ c. omega arith)
     (λ c. omega arith)
     (λ c. omega arith)
+    (λ c. omega arith)
+    (λ c. omega arith)
     (λ c κs. tt)
     (λ c κs. tt)
     (λ c. omega arith)
     (λ c. omega arith)
-    (λ c. (omega arith, omega arith, sum-step _ _ _ _ (c .before .before .before .before .before .before .loop .inv .2) (rw (c .powi22 .ensures, c .before .ratio2 .ensures)) (omega arith)))
+    (λ c. (omega arith, omega arith, sum-step _ _ _ _ (c .before .before .before .before .before .before .before .loop .inv .2) (rw (c .powi22 .ensures, c .before .ratio2 .ensures)) (omega arith)))
     (λ c. float-small _ (omega arith))
     (λ c κs. tt)
     (λ c.
     let c3 = c .before .before .before in
     let c6 = c3 .before .before .before in
-    rw (c .sqrt .ensures, sum-end _ _ (c6 .before .before .before .before .before .before .args .n) _ (c3 .loop .inv .2) (omega arith))))
+    rw (c .sqrt .ensures, sum-end _ _ (c6 .before .before .before .before .before .before .before .before .args .n) _ (c3 .loop .inv .2) (omega arith))))

@@ -5,7 +5,7 @@ use lib.ListN.{length}
 use Rattle.image.specs.Image.{VECTOR}
 use Rattle.session.specs.Figures.{FIGURES}
 use Rattle.library.specs.Library.{Crossing}
-use Rattle.library.proofs.Laws.{and-left, three, tested, right-four}
+use Rattle.library.proofs.Laws.{and-left, four, tested, right-five}
 use Rattle.library.proofs.Kept.{lent-open}
 use Rattle.library.proofs.vunchrem_open.Statement.{statement}
 use Rattle.library.proofs.vunchrem_open.Tie as tie
@@ -27,7 +27,7 @@ vunchrem-open-spec =
     let c10 = c9 .before in
     let c14 = c10 .before .before .before .before in
     let c15 = c14 .before in
-    tested (c15 .three .result) _ (c10 .lent .ensures) (c9 .if1 .taken) .reply)
+    tested (c15 .four .result) _ (c10 .lent .ensures) (c9 .if1 .taken) .reply)
     (λ c κs.
     let c4 = c .before .before .before .before in
     let c8 = c4 .before .before .before .before in
@@ -36,7 +36,7 @@ vunchrem-open-spec =
     let c16 = c15 .before in
     let c20 = c16 .before .before .before .before in
     let c21 = c20 .before in
-    tested (c21 .three .result) _ (c16 .lent .ensures) (c15 .if1 .taken) .numbers)
+    tested (c21 .four .result) _ (c16 .lent .ensures) (c15 .if1 .taken) .numbers)
     (λ c. search needs)
     (λ c. search needs)
     (λ c. search needs)
@@ -55,12 +55,14 @@ vunchrem-open-spec =
     let c24 = c23 .before in
     let c28 = c24 .before .before .before .before in
     let c32 = c28 .before .before .before .before in
-    let long = three _ _ _ (sym (c24 .three .ensures) ∙ and-left (c24 .three .result) (c19 .lent .result) (c18 .if1 .taken)) in
-    rw (← (c24 .three .ensures), ← (c19 .lent .ensures), c18 .if1 .taken) (
+    let c33 = c32 .before in
+    let a = c33 .args in
+    let long = four _ _ _ _ (sym (c24 .four .ensures) ∙ and-left (c24 .four .result) (c19 .lent .result) (c18 .if1 .taken)) in
+    rw (← (c24 .four .ensures), ← (c19 .lent .ensures), c18 .if1 .taken) (
       refl,
-      lent-open (c32 .args .figures .now)
-          (right-four (length (c32 .args .figures .now)) (length (c32 .args .state .now)) (length (c32 .args .derivative .now)) (length (c32 .args .previous .now)) FIGURES VECTOR
-          (tested (c24 .three .result) _ (c19 .lent .ensures) (c18 .if1 .taken) .figures) (long .first) (long .second) (long .third))
+      lent-open (a .figures .now)
+          (right-five (length (a .figures .now)) (length (a .absolute .now)) (length (a .state .now)) (length (a .derivative .now)) (length (a .previous .now)) FIGURES VECTOR
+          (tested (c24 .four .result) _ (c19 .lent .ensures) (c18 .if1 .taken) .figures) (long .first) (long .second) (long .third) (long .fourth))
           _ (rw (c17 .scheme-of .ensures, c16 .history-of .ensures) at (c14 .«open» .ensures)) (c2 .put-numbers .ensures) (c8 .say .ensures .0),
     ))
     (λ c. search needs)
@@ -71,4 +73,4 @@ vunchrem-open-spec =
     let c1 = c .before in
     let c5 = c1 .before .before .before .before in
     let c6 = c5 .before in
-    rw (← (c6 .three .ensures), ← (c1 .lent .ensures), c .if1 .left) (refl, refl)))
+    rw (← (c6 .four .ensures), ← (c1 .lent .ensures), c .if1 .left) (refl, refl)))

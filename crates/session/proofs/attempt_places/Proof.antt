@@ -4,7 +4,8 @@ use native.Mathlib.Omega.{arith}
 use mathlib.Core.Path.{refl, ap, _∙_}
 use Rattle.evaluation.specs.Evaluation.{allFinite}
 use Rattle.session.specs.Session.{attemptPlaces, stepClear, clear, clearAnswers}
-use Rattle.session.specs.Figures.{sessionOf}
+use Rattle.evaluation.specs.Sizes.{answerRoom}
+use Rattle.session.specs.Figures.{answersAt, sessionOf}
 use Rattle.session.proofs.Parts.{jacobian-slice, answers-slice, jacobian-calm, answers-calm, slice-long}
 use Rattle.session.proofs.attempt_places.Statement.{statement}
 use Rattle.session.proofs.attempt_places.Tie as tie
@@ -39,7 +40,7 @@ attempt-places-spec =
     (λ c κs.
     let c4 = c .before .before .before .before in
     let c7 = c4 .before .before .before in (
-      (slice-long (c7 .args .figures .now) 308 320 (omega (arith, c7 .pre .0 .0)), c7 .pre .0 .1),
+      (slice-long (c7 .args .figures .now) answersAt answerRoom (omega (arith, c7 .pre .0 .0)), c7 .pre .0 .1),
       λ e. ap allFinite (answers-slice (c7 .args .k) _ (c7 .pre .0 .0)) ∙ answers-calm
           (c7 .args .k) _ (c7 .pre .1 e),
     ))

@@ -17,14 +17,17 @@ error-norm-spec =
     (λ c. search needs)
     (λ c. search needs)
     (λ c. search needs)
+    (λ c. search needs)
     (λ c κs.
-    let c3 = c .before .before .before in
-    let c4 = c3 .before in
-    let p = norm-sized _ _ _ _ _ _ (sym (c4 .norm-fault .ensures) ∙ c3 .if1 .taken) in (p .0, (p .1, (search needs, search needs, search needs))))
+    let c4 = c .before .before .before .before in
+    let c5 = c4 .before in
+    let p = norm-sized _ _ _ _ _ _ (sym (c5 .norm-fault .ensures) ∙ c4 .if1 .taken) in
+    (p .0, (p .1, (search needs, search needs, search needs, search needs))))
     (λ c.
     let c4 = c .before .before .before .before in
     let c5 = c4 .before in
-    rw (← (c5 .norm-fault .ensures), c4 .if1 .taken, c .scaled-error-norm .ensures))
+    let c6 = c5 .before in
+    rw (← (c6 .norm-fault .ensures), c5 .if1 .taken, c .scaled-error-norm .ensures))
     (λ c.
     let c1 = c .before in
     rw (← (c1 .norm-fault .ensures)) (unless-refused _ _ _ (c .if1 .left))))

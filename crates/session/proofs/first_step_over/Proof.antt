@@ -1,14 +1,15 @@
 -- `session::first_step_over` meets its contract. Assumes nothing.
 use native.Mathlib.Omega.{arith}
 use mathlib.Core.Path.{sym, _∙_}
+use Rattle.evaluation.specs.Sizes.{places}
 use Rattle.session.specs.declared.Wants.the-variants.{Any}
 use Rattle.session.specs.Tests.{unless}
-use Rattle.session.specs.Figures.{sessionOf}
+use Rattle.session.specs.Figures.{absoluteAt, stateAt, derivativeAt, sessionOf}
 use Rattle.session.specs.Calls.{firstStepCall}
 use Rattle.session.proofs.Tests.{unless-refused}
 use Rattle.session.proofs.Laws.{first-step-passes, fault-none}
-use Rattle.session.proofs.Parts.{state-slice, derivative-slice}
-use Rattle.session.proofs.Attempts.{lent-lengths}
+use Rattle.session.proofs.Parts.{absolute-slice, state-slice, derivative-slice}
+use Rattle.session.proofs.Attempts.{lent-length}
 use Rattle.session.proofs.first_step_over.Statement.{statement}
 use Rattle.session.proofs.first_step_over.Tie as tie
 
@@ -23,10 +24,11 @@ first-step-over-spec =
     (λ c.
     let c4 = c .before .before .before .before in
     omega (arith, c4 .pre))
+    (λ c. omega arith)
+    (λ c. omega arith)
     (λ c.
     let c4 = c .before .before .before .before in
-    let c5 = c4 .before in
-    omega (arith, c5 .pre))
+    omega (arith, c4 .pre))
     (λ c. omega arith)
     (λ c. omega arith)
     (λ c.
@@ -43,14 +45,17 @@ first-step-over-spec =
     let c4 = c .before .before .before .before in
     let c5 = c4 .before in
     let c7 = c5 .before .before in
-    let lent = lent-lengths (c7 .args .figures .now) (c7 .pre) in
-    (fault-none Any _ (first-step-passes _ _ (sym (c5 .first-step-fault .ensures) ∙ c4 .if1 .taken)) .small, (lent .0, lent .1)))
+    let long = lent-length (c7 .args .figures .now) (c7 .pre) in (
+      fault-none Any _ (first-step-passes _ _ (sym (c5 .first-step-fault .ensures) ∙ c4 .if1 .taken)) .small,
+      (long absoluteAt places (omega arith), long stateAt places (omega arith), long derivativeAt places (omega arith)),
+    ))
     (λ c.
     let c4 = c .before .before .before .before in
     let c5 = c4 .before in
     let c6 = c5 .before in
     let c8 = c6 .before .before in
-    rw (← (c6 .first-step-fault .ensures), c5 .if1 .taken, c .estimate-initial-step .ensures, state-slice (c8 .args .k) _ (c8 .pre), derivative-slice (c8 .args .k) _ (c8 .pre)))
+    let k = c8 .args .k in
+    rw (← (c6 .first-step-fault .ensures), c5 .if1 .taken, c .estimate-initial-step .ensures, absolute-slice k _ (c8 .pre), state-slice k _ (c8 .pre), derivative-slice k _ (c8 .pre)))
     (λ c.
     let c1 = c .before in
     rw (← (c1 .first-step-fault .ensures)) (unless-refused _ _ _ (c .if1 .left))))

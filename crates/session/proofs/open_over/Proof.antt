@@ -14,11 +14,12 @@ open-over-spec =
     (tie.spec
     (λ c κs.
     let c4 = c .before .before .before .before in
-    c4 .pre .1 .1)
+    let c5 = c4 .before in
+    (c5 .pre .1 .0 .0, c5 .pre .1 .1))
     (λ c κs.
     let c4 = c .before .before .before .before in
-    let c7 = c4 .before .before .before in
-    (c7 .pre .0, c7 .pre .1 .0))
+    let c8 = c4 .before .before .before .before in
+    (c8 .pre .0, c8 .pre .1 .0))
     (λ c κs. search needs)
     (λ c. search needs)
     (λ c.
@@ -26,12 +27,12 @@ open-over-spec =
     let c5 = c3 .before .before in
     let c6 = c5 .before in
     let c10 = c6 .before .before .before .before in
-    let c11 = c10 .before in
-    rw (← (c6 .run-fault .ensures), c5 .if1 .taken, c .resting .ensures, c3 .put-run .ensures (c11 .args .k) (c11 .pre .1 .1 .0) (c11 .pre .1 .1 .1)))
+    let c12 = c10 .before .before in
+    rw (← (c6 .run-fault .ensures), c5 .if1 .taken, c .resting .ensures, c3 .put-run .ensures (c12 .args .k) (c12 .pre .1 .1 .0) (c12 .pre .1 .1 .1)))
     (λ c κs.
     let c4 = c .before .before .before .before in
-    let c7 = c4 .before .before .before in
-    c7 .pre .0)
+    let c8 = c4 .before .before .before .before in
+    c8 .pre .0)
     (λ c κs. search needs)
     (λ c. search needs)
     (λ c.

@@ -13,62 +13,69 @@ put-run-spec =
     (tie.spec
     (λ c.
     let c4 = c .before .before .before .before in
-    omega (arith, c4 .pre .0))
+    let c5 = c4 .before in
+    omega (arith, c5 .pre .0))
     (λ c.
-    let c4 = c .before .before .before .before in
-    simp length-set (omega (arith, c4 .pre .0)))
-    (λ c.
-    let c4 = c .before .before .before .before in
-    simp length-set (omega (arith, c4 .pre .0)))
-    (λ c.
-    let c4 = c .before .before .before .before in
-    simp length-set (omega (arith, c4 .pre .0)))
-    (λ c κs.
     let c4 = c .before .before .before .before in
     let c5 = c4 .before in
-    simp length-set (omega (arith, c5 .pre .0, c5 .pre .1)))
+    simp length-set (omega (arith, c5 .pre .0)))
+    (λ c.
+    let c4 = c .before .before .before .before in
+    let c5 = c4 .before in
+    simp length-set (omega (arith, c5 .pre .0)))
+    (λ c κs.
+    let c4 = c .before .before .before .before in
+    let c6 = c4 .before .before in
+    simp length-set (omega (arith, c6 .pre .0, c6 .pre .1)))
     (λ c κs.
     let c3 = c .before .before .before in
     let c7 = c3 .before .before .before .before in
-    let c9 = c7 .before .before in
-    omega (arith, c3 .put .kept, c9 .pre .0, c9 .pre .1, head-long (c9 .args .figures .now) (c9 .pre .0) (c9 .args .time) (c9 .args .relative) (c9 .args .absolute)))
+    let c10 = c7 .before .before .before in
+    let a = c10 .args in
+    omega (arith, c3 .put .kept, c10 .pre .0, c10 .pre .1, head-long (a .figures .now) (c10 .pre .0) (a .time) (a .relative)))
     (λ c κs.
     let c3 = c .before .before .before in
     let c7 = c3 .before .before .before .before in
     let c11 = c7 .before .before .before .before in
-    let c13 = c11 .before .before in
-    omega (arith, c3 .put2 .kept, c7 .put .kept, c13 .pre .0, c13 .pre .1, head-long (c13 .args .figures .now) (c13 .pre .0) (c13 .args .time) (c13 .args .relative) (c13 .args .absolute)))
+    let c14 = c11 .before .before .before in
+    let a = c14 .args in
+    omega (arith, c3 .put2 .kept, c7 .put .kept, c14 .pre .0, c14 .pre .1, head-long (a .figures .now) (c14 .pre .0) (a .time) (a .relative)))
+    (λ c κs.
+    let c3 = c .before .before .before in
+    let c7 = c3 .before .before .before .before in
+    let c11 = c7 .before .before .before .before in
+    let c15 = c11 .before .before .before .before in
+    let c18 = c15 .before .before .before in
+    let a = c18 .args in
+    omega (arith, c3 .put3 .kept, c7 .put2 .kept, c11 .put .kept, c18 .pre .0, c18 .pre .1, head-long (a .figures .now) (c18 .pre .0) (a .time) (a .relative)))
     (λ c. search needs)
     (λ c κs.
     let c3 = c .before .before .before in
     let c7 = c3 .before .before .before .before in
     let c11 = c7 .before .before .before .before in
     let c15 = c11 .before .before .before .before in
-    let c17 = c15 .before .before in
-    omega (arith, c3 .put3 .kept, c7 .put2 .kept, c11 .put .kept, c17 .pre .0, head-long (c17 .args .figures .now) (c17 .pre .0) (c17 .args .time) (c17 .args .relative) (c17 .args .absolute)))
+    let c19 = c15 .before .before .before .before in
+    let c22 = c19 .before .before .before in
+    let a = c22 .args in
+    omega (arith, c3 .put4 .kept, c7 .put3 .kept, c11 .put2 .kept, c15 .put .kept, c22 .pre .0, head-long (a .figures .now) (c22 .pre .0) (a .time) (a .relative)))
     (λ c.
     let c2 = c .before .before in
     let c6 = c2 .before .before .before .before in
     let c10 = c6 .before .before .before .before in
     let c14 = c10 .before .before .before .before in
     let c18 = c14 .before .before .before .before in
-    let c20 = c18 .before .before in
-    omega (
-      arith,
-      c2 .wipe .kept,
-      c6 .put3 .kept,
-      c10 .put2 .kept,
-      c14 .put .kept,
-      c20 .pre .0,
-      head-long (c20 .args .figures .now) (c20 .pre .0) (c20 .args .time) (c20 .args .relative)
-          (c20 .args .absolute),
-    ))
+    let c22 = c18 .before .before .before .before in
+    let c25 = c22 .before .before .before in
+    let a = c25 .args in
+    omega (arith, c2 .wipe .kept, c6 .put4 .kept, c10 .put3 .kept, c14 .put2 .kept, c18 .put .kept, c25 .pre .0, head-long (a .figures .now) (c25 .pre .0) (a .time) (a .relative)))
     (λ c.
     let c2 = c .before .before in
     let c6 = c2 .before .before .before .before in
     let c10 = c6 .before .before .before .before in
     let c14 = c10 .before .before .before .before in
     let c18 = c14 .before .before .before .before in
-    let c20 = c18 .before .before in
-    open-is (c20 .args .figures .now) (c20 .pre .0) (c20 .args .time) (c20 .args .relative) (c20 .args .absolute) (c20 .args .state .now) (c20 .args .derivative .now)
-    (c20 .args .previous .now) (c20 .pre .1 .0) (c20 .pre .1 .1) (c20 .pre .1 .2) (c14 .put .ensures) (c10 .put2 .ensures) (c6 .put3 .ensures) (c2 .wipe .ensures)))
+    let c22 = c18 .before .before .before .before in
+    let c25 = c22 .before .before .before in
+    let a = c25 .args in
+    open-is (a .figures .now) (c25 .pre .0) (a .time) (a .relative) (a .absolute .now) (a .state .now) (a .derivative .now) (a .previous .now)
+    (c25 .pre .1 .0) (c25 .pre .1 .1) (c25 .pre .1 .2) (c25 .pre .1 .3) (c18 .put .ensures) (c14 .put2 .ensures) (c10 .put3 .ensures) (c6 .put4 .ensures) (c2 .wipe .ensures)))

@@ -3,6 +3,7 @@ use borrow.Author.Needs.{needs}
 use mathlib.Core.Path.{refl, sym, ap, _∙_}
 use mathlib.Core.Bool.{_&&_}
 use mathlib.Core.List.{[]}
+use native.Mathlib.Omega.{arith}
 use borrow.Author.Tests.{not-false}
 use Rattle.session.specs.Session.{sizeOk}
 use Rattle.session.proofs.Tests.{stops, holds-on, all-hold}
@@ -38,10 +39,14 @@ run-fault-spec =
     let c3 = c2 .before in
     let c4 = c3 .before in
     let c8 = c4 .before .before .before .before in
-    let c11 = c8 .before .before .before in
+    let c12 = c8 .before .before .before .before in
     rw (opening _) (holds-on 1 _ refl (c4 .if1 .left) (holds-on 1 _ (c3 .run-places .ensures) (c2 .if2 .left)
-    (stops 2 _ (opened-good2 (c11 .args .k) _ (c11 .pre .0) (c11 .pre .1) refl refl refl (c1 .good2 .ensures [])) (c .if3 .taken)))))
-    (λ c κs. search needs)
+    (stops 2 _ (opened-good2 (c12 .args .k) _ (c12 .pre .1 .0) (c12 .pre .1 .1) refl refl refl (c1 .good2 .ensures [])) (c .if3 .taken)))))
+    (λ c κs.
+    let c4 = c .before .before .before .before in
+    let c8 = c4 .before .before .before .before in
+    let c12 = c8 .before .before .before .before in
+    (size-both (c12 .args .k .n) (not-false _ (c4 .if1 .left)) .1, c12 .pre .0))
     (λ c κs. search needs)
     (λ c.
     let c1 = c .before in
@@ -56,9 +61,10 @@ run-fault-spec =
     let c10 = c9 .before in
     let c11 = c10 .before in
     let c15 = c11 .before .before .before .before in
+    let c16 = c15 .before in
     rw (opening _) (holds-on 1 _ refl (c8 .if1 .left) (holds-on 1 _ (c7 .run-places .ensures) (c6 .if2 .left)
-    (holds-on 2 _ (opened-good2 (c15 .args .k) _ (c15 .pre .0) (c15 .pre .1) refl refl refl (c5 .good2 .ensures [])) (c4 .if3 .left)
-    (holds-on 4 _ (c3 .good4 .ensures) (true-not (c2 .if4 .taken))
+    (holds-on 2 _ (opened-good2 (c16 .args .k) _ (c16 .pre .1 .0) (c16 .pre .1 .1) refl refl refl (c5 .good2 .ensures [])) (c4 .if3 .left)
+    (holds-on 4 _ (c3 .tolerances-ok .ensures) (true-not (c2 .if4 .taken))
     (holds-on 3 _ (time-and-arrays (c1 .finite .ensures) (c11 .all-finite .ensures) (c10 .all-finite2 .ensures) (c9 .all-finite3 .ensures)) (true-not (c .if5 .taken)) all-hold))))))
     (λ c.
     let c1 = c .before in
@@ -73,9 +79,10 @@ run-fault-spec =
     let c10 = c9 .before in
     let c11 = c10 .before in
     let c15 = c11 .before .before .before .before in
+    let c16 = c15 .before in
     rw (opening _) (holds-on 1 _ refl (c8 .if1 .left) (holds-on 1 _ (c7 .run-places .ensures) (c6 .if2 .left)
-    (holds-on 2 _ (opened-good2 (c15 .args .k) _ (c15 .pre .0) (c15 .pre .1) refl refl refl (c5 .good2 .ensures [])) (c4 .if3 .left)
-    (holds-on 4 _ (c3 .good4 .ensures) (true-not (c2 .if4 .taken))
+    (holds-on 2 _ (opened-good2 (c16 .args .k) _ (c16 .pre .1 .0) (c16 .pre .1 .1) refl refl refl (c5 .good2 .ensures [])) (c4 .if3 .left)
+    (holds-on 4 _ (c3 .tolerances-ok .ensures) (true-not (c2 .if4 .taken))
     (stops 3 _ (time-and-arrays (c1 .finite .ensures) (c11 .all-finite .ensures) (c10 .all-finite2 .ensures) (c9 .all-finite3 .ensures)) (false-not (c .if5 .left))))))))
     (λ c.
     let c1 = c .before in
@@ -85,7 +92,7 @@ run-fault-spec =
     let c5 = c4 .before in
     let c6 = c5 .before in
     let c10 = c6 .before .before .before .before in
-    let c13 = c10 .before .before .before in
+    let c14 = c10 .before .before .before .before in
     rw (opening _) (holds-on 1 _ refl (c6 .if1 .left) (holds-on 1 _ (c5 .run-places .ensures) (c4 .if2 .left)
-    (holds-on 2 _ (opened-good2 (c13 .args .k) _ (c13 .pre .0) (c13 .pre .1) refl refl refl (c3 .good2 .ensures [])) (c2 .if3 .left)
-    (stops 4 _ (c1 .good4 .ensures) (false-not (c .if4 .left))))))))
+    (holds-on 2 _ (opened-good2 (c14 .args .k) _ (c14 .pre .1 .0) (c14 .pre .1 .1) refl refl refl (c3 .good2 .ensures [])) (c2 .if3 .left)
+    (stops 4 _ (c1 .tolerances-ok .ensures) (false-not (c .if4 .left))))))))

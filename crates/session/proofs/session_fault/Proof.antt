@@ -1,13 +1,15 @@
 -- `session::session_fault` meets its contract. Assumes nothing.
 use borrow.Author.Needs.{needs}
 use mathlib.Core.Path.{sym, _∙_}
+use Prim.Native.Nat.{_≤_}
 use native.Mathlib.Omega.{arith}
 use borrow.Author.Tests.{not-false}
+use Rattle.evaluation.specs.Sizes.{places}
 use Rattle.session.specs.Session.{sessionTests}
-use Rattle.session.specs.Figures.{sessionOf}
+use Rattle.session.specs.Figures.{absoluteAt, sessionOf}
 use Rattle.session.proofs.Tests.{stops, holds-on, all-hold}
 use Rattle.session.proofs.Laws.{good1-size}
-use Rattle.session.proofs.Parts.{time-then, run-tolerances, attempt-step}
+use Rattle.session.proofs.Parts.{slice-long, time-then, run-tolerances, attempt-step}
 use Rattle.session.proofs.session_fault.Statement.{statement}
 use Rattle.session.proofs.session_fault.Tie as tie
 
@@ -41,12 +43,19 @@ session-fault-spec =
     let c4 = c .before .before .before .before in
     let c8 = c4 .before .before .before .before in
     omega (arith, c8 .pre))
+    (λ c. omega arith)
+    (λ c. omega arith)
     (λ c.
     let c4 = c .before .before .before .before in
     let c8 = c4 .before .before .before .before in
-    let c9 = c8 .before in
-    omega (arith, c9 .pre))
-    (λ c κs. search needs)
+    omega (arith, c8 .pre))
+    (λ c κs.
+    let c4 = c .before .before .before .before in
+    let c5 = c4 .before in
+    let c6 = c5 .before in
+    let c9 = c6 .before .before .before in
+    let small : c9 .args .k .n ≤ places = unfold sessionOf in (good1-size _ (sym (c6 .good1 .ensures) ∙ not-false (c6 .good1 .result) (c5 .if1 .left)) .1) in
+    (small, slice-long (c9 .args .figures .now) absoluteAt places (omega (arith, c9 .pre))))
     (λ c.
     let c4 = c .before .before .before .before in
     let c8 = c4 .before .before .before .before in
@@ -79,10 +88,11 @@ session-fault-spec =
     let c11 = c10 .before in
     let c12 = c11 .before in
     let c13 = c12 .before in
+    let c16 = c13 .before .before .before in
     holds-on 1 _ (c13 .good1 .ensures) (c12 .if1 .left)
     (holds-on 2 _ (c11 .good2 .ensures _) (c10 .if2 .left)
     (holds-on 7 _ (c9 .good7 .ensures _) (c1 .if3 .left)
-    (stops 4 _ (run-tolerances _ _ (c6 .good4 .ensures)) (c .if4 .taken)))))
+    (stops 4 _ (run-tolerances _ _ (c16 .pre) (c6 .tolerances-ok .ensures)) (c .if4 .taken)))))
     (λ c.
     let c1 = c .before in
     let c2 = c1 .before in
@@ -93,10 +103,11 @@ session-fault-spec =
     let c12 = c11 .before in
     let c13 = c12 .before in
     let c14 = c13 .before in
+    let c17 = c14 .before .before .before in
     holds-on 1 _ (c14 .good1 .ensures) (c13 .if1 .left)
     (holds-on 2 _ (c12 .good2 .ensures _) (c11 .if2 .left)
     (holds-on 7 _ (c10 .good7 .ensures _) (c2 .if3 .left)
-    (holds-on 4 _ (run-tolerances _ _ (c7 .good4 .ensures)) (c1 .if4 .left)
+    (holds-on 4 _ (run-tolerances _ _ (c17 .pre) (c7 .tolerances-ok .ensures)) (c1 .if4 .left)
     (stops 5 _ (attempt-step _ _ (c5 .good5 .ensures)) (c .if5 .taken))))))
     (λ c.
     let c1 = c .before in
@@ -111,10 +122,11 @@ session-fault-spec =
     let c14 = c13 .before in
     let c15 = c14 .before in
     let c16 = c15 .before in
+    let c18 = c16 .before .before in
     holds-on 1 _ (c15 .good1 .ensures) (c14 .if1 .left)
     (holds-on 2 _ (c13 .good2 .ensures _) (c12 .if2 .left)
     (holds-on 7 _ (c11 .good7 .ensures _) (c3 .if3 .left)
-    (holds-on 4 _ (run-tolerances _ _ (c8 .good4 .ensures)) (c2 .if4 .left)
+    (holds-on 4 _ (run-tolerances _ _ (c18 .pre) (c8 .tolerances-ok .ensures)) (c2 .if4 .left)
     (holds-on 5 _ (attempt-step _ _ (c6 .good5 .ensures)) (c1 .if5 .left)
     (stops 3 _ (time-then _ _ (c4 .finite .ensures) (c16 .arrays-finite .ensures _)) (c .if6 .taken)))))))
     (λ c.
@@ -130,9 +142,10 @@ session-fault-spec =
     let c14 = c13 .before in
     let c15 = c14 .before in
     let c16 = c15 .before in
+    let c18 = c16 .before .before in
     holds-on 1 _ (c15 .good1 .ensures) (c14 .if1 .left)
     (holds-on 2 _ (c13 .good2 .ensures _) (c12 .if2 .left)
     (holds-on 7 _ (c11 .good7 .ensures _) (c3 .if3 .left)
-    (holds-on 4 _ (run-tolerances _ _ (c8 .good4 .ensures)) (c2 .if4 .left)
+    (holds-on 4 _ (run-tolerances _ _ (c18 .pre) (c8 .tolerances-ok .ensures)) (c2 .if4 .left)
     (holds-on 5 _ (attempt-step _ _ (c6 .good5 .ensures)) (c1 .if5 .left)
     (holds-on 3 _ (time-then _ _ (c4 .finite .ensures) (c16 .arrays-finite .ensures _)) (c .if6 .left) all-hold)))))))

@@ -1,18 +1,13 @@
 -- `session::Session::figures` meets its contract. Assumes nothing.
-use borrow.Author.Needs.{needs}
-use Prim.Native.Nat.{ℕ}
-use mathlib.Core.Path.{_≡_, sym, ap, _∙_}
-use mathlib.Core.List.{List, map}
+use borrow.Author.Needs.{needs, length-unmapped}
+use mathlib.Core.Path.{ap, _∙_}
 use lib.Ieee.{Float}
-use lib.ListN.{length, length-map}
+use Rattle.evaluation.specs.Sizes.{places, answerRoom}
+use Rattle.session.specs.Session.{jacobianRoom}
 use Rattle.session.specs.Figures.{sessionOf, headOf}
 use Rattle.session.proofs.Inverse.{session-back}
 use Rattle.session.proofs.Session.figures.Statement.{statement}
 use Rattle.session.proofs.Session.figures.Tie as tie
-
--- A list is as long as its image under the identity.
-long : (xs : List Float) → {k : ℕ} → length (map (λ (v : Float). v) xs) ≡ k → length xs ≡ k
-long xs e = sym (length-map {A = Float} {B = Float} xs (λ v. v)) ∙ e
 
 pub figures-spec : {M : Type 1} → statement M
 figures-spec =
@@ -27,10 +22,11 @@ figures-spec =
       c1 .put-session .ensures,
       ap (sessionOf (headOf self)) (c1 .put-session .ensures) ∙ session-back self
           (record {
+            absolute = search needs;
             state = search needs;
             derivative = search needs;
-            previous = long (self .previous) (rests .0 .1 .0 .1);
-            jacobian = long (self .jacobian) (rests .1 .1 .1 .0 .1 .0 .1);
-            answers = long (self .answers) (rests .1 .1 .1 .1 .1 .0 .1 .0 .1);
+            previous = length-unmapped Float (self .previous) places (rests .0 .1 .0 .1);
+            jacobian = length-unmapped Float (self .jacobian) jacobianRoom (rests .1 .1 .1 .0 .1 .0 .1);
+            answers = length-unmapped Float (self .answers) answerRoom (rests .1 .1 .1 .1 .1 .0 .1 .0 .1);
           }),
     )))

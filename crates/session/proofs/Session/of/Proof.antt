@@ -20,6 +20,7 @@ of-spec =
     (λ c. search needs)
     (λ c κs. search needs)
     (λ c. search needs)
+    (λ c κs. search needs)
     (λ c. search needs)
     (λ c. search needs)
     (λ c. search needs)
@@ -28,4 +29,5 @@ of-spec =
     let c4 = c2 .before .before in
     let c6 = c4 .before .before in
     let c8 = c6 .before .before in
-    rw (c .answers-at .ensures, c2 .matrix-at .ensures, c4 .vector-at3 .ensures, c6 .vector-at2 .ensures, c8 .vector-at .ensures)))
+    let c10 = c8 .before .before in
+    rw (c .answers-at .ensures, c2 .matrix-at .ensures, c4 .vector-at4 .ensures, c6 .vector-at3 .ensures, c8 .vector-at2 .ensures, c10 .vector-at .ensures)))

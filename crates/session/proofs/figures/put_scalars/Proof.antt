@@ -12,6 +12,5 @@ put-scalars-spec =
     (λ c. omega arith)
     (λ c. simp length-set (omega arith))
     (λ c. simp length-set (omega arith))
-    (λ c. simp length-set (omega arith))
     (λ c. search needs)
     (λ c. search needs))

@@ -15,6 +15,7 @@ put-session-spec =
     (λ c κs. search needs)
     (λ c κs. search needs)
     (λ c κs. search needs)
+    (λ c κs. search needs)
     (λ c. search needs)
     (λ c.
     let c2 = c .before .before in
@@ -25,5 +26,7 @@ put-session-spec =
     let c22 = c18 .before .before .before .before in
     let c26 = c22 .before .before .before .before in
     let c30 = c26 .before .before .before .before in
-    rw (c2 .put-answers .ensures, c6 .put-matrix .ensures, c10 .put-vector3 .ensures, c14 .put-vector2 .ensures, c18 .put-vector .ensures, c22 .put-scalars .ensures)
-    (all-stored _ (c30 .args .out .now) (c30 .pre))))
+    let c34 = c30 .before .before .before .before in
+    let c35 = c34 .before in
+    rw (c2 .put-answers .ensures, c6 .put-matrix .ensures, c10 .put-vector4 .ensures, c14 .put-vector3 .ensures, c18 .put-vector2 .ensures, c22 .put-vector .ensures, c26 .put-scalars .ensures)
+    (all-stored _ (c35 .args .out .now) (c35 .pre))))
