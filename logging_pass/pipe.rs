@@ -56,7 +56,7 @@ impl Session {
         state: &[f64],
         derivative: &[f64],
         relative: f64,
-        absolute: f64,
+        absolute: &[f64],
     ) -> Result<Self, Refusal> {
         let path = std::env::var("CONSOLE").unwrap_or("target/bin/console".into());
         let mut program = Command::new(&path)
@@ -67,7 +67,8 @@ impl Session {
         let (input, output) = (program.stdin.take(), program.stdout.take().expect("it is piped"));
         let mut session = Self { program, input, output, n: state.len(), time, state: state.to_vec() };
         let mut call = vec![0, scheme as u8, state.len() as u8, 0];
-        put(&mut call, &[time, relative, absolute], 3);
+        put(&mut call, &[time, relative], 2);
+        put(&mut call, absolute, PLACES);
         put(&mut call, state, PLACES);
         put(&mut call, derivative, PLACES);
         put(&mut call, &[], PLACES);

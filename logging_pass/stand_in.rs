@@ -34,7 +34,7 @@ impl Session {
         state: &[f64],
         derivative: &[f64],
         relative: f64,
-        absolute: f64,
+        absolute: &[f64],
     ) -> Result<Self, Refusal> {
         let opening = Opening {
             scheme: scheme as u8,
@@ -42,7 +42,7 @@ impl Session {
             history_held: false,
             time,
             relative,
-            absolute,
+            absolute: vector(absolute),
             state: vector(state),
             derivative: vector(derivative),
             history: vector(&[]),

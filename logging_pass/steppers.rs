@@ -182,7 +182,7 @@ pub struct Core(Session);
 impl Core {
     pub fn new(state: State, between: &Between) -> Self {
         let f0 = rate(between, between.from.0, &state);
-        let session = Session::open(Scheme::Etdrk2, between.from.0, &state, &f0, RELATIVE, ABSOLUTE);
+        let session = Session::open(Scheme::Etdrk2, between.from.0, &state, &f0, RELATIVE, &[ABSOLUTE; N]);
         Self(session.unwrap_or_else(|refusal| panic!("the opening was refused by {}", refusal.number())))
     }
 }

@@ -5,6 +5,7 @@ use crate::model::{
     ANSWERS, Answer, Attempt, Matrix, Opening, PLACES, Session, Vector, bare_error_norm, bare_exponential,
     bare_phi_action,
 };
+use crate::old_session::OldSession;
 
 pub const OPEN: u8 = 0;
 pub const BEGIN: u8 = 1;
@@ -17,11 +18,18 @@ pub const PHI_ACTION: u8 = 7;
 pub const ERROR_NORM: u8 = 8;
 pub const SHOW: u8 = 9;
 pub const LOAD: u8 = 10;
+pub const BRING_OVER: u8 = 11;
 
 /// The most entries, inputs or lent places of a call.
 const MOST: usize = 512;
 /// What each lent place holds before a call.
 pub const BEFORE: f64 = -1.5;
+
+/// The bytes at the head of an image, each a number.
+pub const NUMBERS: usize = 5;
+/// The doubles of an image: time, step and the relative tolerance; four vectors; the Jacobian; the answers.
+pub const FIGURES: usize = 3 + 4 * PLACES + PLACES * PLACES + ANSWERS * PLACES;
+pub const BYTES: usize = NUMBERS + 8 * FIGURES;
 
 /// A call as it stands in a script.
 #[derive(Clone, Debug)]
@@ -34,9 +42,10 @@ pub enum Call {
     FirstStep { largest: f64 },
     Exponential { size: u8, entries: Vec<f64>, lent: usize },
     PhiAction { n: u8, order: u8, scale_a: f64, matrix: Vec<f64>, input: Vec<f64>, lent: usize },
-    ErrorNorm { n: u8, relative: f64, absolute: f64, error: Vector, state: Vector, candidate: Vector },
+    ErrorNorm { n: u8, relative: f64, absolute: Vector, error: Vector, state: Vector, candidate: Vector },
     Show,
     Load(Box<Session>),
+    BringOver(Box<OldSession>),
 }
 
 /// The console's session between calls.
@@ -83,7 +92,7 @@ impl Console {
                 (answer, session)
             }
             Call::ErrorNorm { n, relative, absolute, error, state, candidate } => {
-                let answer = bare_error_norm(*n, *relative, *absolute, error, state, candidate);
+                let answer = bare_error_norm(*n, *relative, absolute, error, state, candidate);
                 (answer, session)
             }
             Call::Show => {
@@ -93,6 +102,10 @@ impl Console {
             }
             Call::Load(image) => {
                 self.session = (**image).clone();
+                return Told { answer: None, lent };
+            }
+            Call::BringOver(image) => {
+                self.session = image.brought_over();
                 return Told { answer: None, lent };
             }
         };
@@ -123,7 +136,7 @@ pub fn read_call(reader: &mut Reader) -> Option<Call> {
             history_held: reader.byte()? != 0,
             time: reader.double()?,
             relative: reader.double()?,
-            absolute: reader.double()?,
+            absolute: reader.array()?,
             state: reader.array()?,
             derivative: reader.array()?,
             history: reader.array()?,
@@ -163,13 +176,14 @@ pub fn read_call(reader: &mut Reader) -> Option<Call> {
         ERROR_NORM => Call::ErrorNorm {
             n: reader.byte()?,
             relative: reader.double()?,
-            absolute: reader.double()?,
+            absolute: reader.array()?,
             error: reader.array()?,
             state: reader.array()?,
             candidate: reader.array()?,
         },
         SHOW => Call::Show,
         LOAD => Call::Load(Box::new(read_image(reader)?)),
+        BRING_OVER => Call::BringOver(Box::new(OldSession::read(reader)?)),
         _ => return None,
     })
 }
@@ -184,46 +198,57 @@ fn read_image(reader: &mut Reader) -> Option<Session> {
         scheme: reader.byte()?,
         n: reader.byte()?,
         history_held: reader.byte()? != 0,
-        attempt: match reader.byte()? {
-            0 => Attempt::None,
-            1 => Attempt::Supplied,
-            _ => Attempt::Differenced,
-        },
+        attempt: attempt_of(reader.byte()?),
         count: reader.byte()?,
         time: reader.double()?,
         step: reader.double()?,
         relative: reader.double()?,
-        absolute: reader.double()?,
+        absolute: reader.array()?,
         state: reader.array()?,
         derivative: reader.array()?,
         history: reader.array()?,
         jacobian: reader.array()?,
-        answers: {
-            let mut answers = [[0.0; PLACES]; ANSWERS];
-            for answer in &mut answers {
-                *answer = reader.array()?;
-            }
-            answers
-        },
+        answers: read_vectors(reader)?,
     })
 }
 
-pub fn put_image(out: &mut Vec<u8>, session: &Session) {
-    let attempt = match session.attempt {
+pub(crate) fn attempt_of(byte: u8) -> Attempt {
+    match byte {
+        0 => Attempt::None,
+        1 => Attempt::Supplied,
+        _ => Attempt::Differenced,
+    }
+}
+
+pub(crate) fn byte_of(attempt: Attempt) -> u8 {
+    match attempt {
         Attempt::None => 0,
         Attempt::Supplied => 1,
         Attempt::Differenced => 2,
-    };
-    let held = u8::from(session.history_held);
-    out.extend([session.scheme, session.n, held, attempt, session.count]);
-    put_doubles(out, &[session.time, session.step, session.relative, session.absolute]);
-    put_doubles(out, &session.state);
-    put_doubles(out, &session.derivative);
-    put_doubles(out, &session.history);
-    put_doubles(out, &session.jacobian);
-    for answer in &session.answers {
-        put_doubles(out, answer);
     }
+}
+
+pub(crate) fn read_vectors<const N: usize>(reader: &mut Reader) -> Option<[Vector; N]> {
+    let mut vectors = [[0.0; PLACES]; N];
+    for vector in &mut vectors {
+        *vector = reader.array()?;
+    }
+    Some(vectors)
+}
+
+pub(crate) fn put_vectors(out: &mut Vec<u8>, vectors: &[Vector]) {
+    for vector in vectors {
+        put_doubles(out, vector);
+    }
+}
+
+pub fn put_image(out: &mut Vec<u8>, session: &Session) {
+    let held = u8::from(session.history_held);
+    out.extend([session.scheme, session.n, held, byte_of(session.attempt), session.count]);
+    put_doubles(out, &[session.time, session.step, session.relative]);
+    put_vectors(out, &[session.absolute, session.state, session.derivative, session.history]);
+    put_doubles(out, &session.jacobian);
+    put_vectors(out, &session.answers);
 }
 
 pub fn put_answer(out: &mut Vec<u8>, answer: &Answer) {
@@ -249,10 +274,8 @@ pub fn put_call(out: &mut Vec<u8>, call: &Call) {
         Call::Open(opening) => {
             let held = u8::from(opening.history_held);
             out.extend([OPEN, opening.scheme, opening.n, held]);
-            put_doubles(out, &[opening.time, opening.relative, opening.absolute]);
-            put_doubles(out, &opening.state);
-            put_doubles(out, &opening.derivative);
-            put_doubles(out, &opening.history);
+            put_doubles(out, &[opening.time, opening.relative]);
+            put_vectors(out, &[opening.absolute, opening.state, opening.derivative, opening.history]);
         }
         Call::Begin { supplied, step, jacobian, lent } => {
             out.extend([BEGIN, u8::from(*supplied)]);
@@ -291,15 +314,17 @@ pub fn put_call(out: &mut Vec<u8>, call: &Call) {
         }
         Call::ErrorNorm { n, relative, absolute, error, state, candidate } => {
             out.extend([ERROR_NORM, *n]);
-            put_doubles(out, &[*relative, *absolute]);
-            put_doubles(out, error);
-            put_doubles(out, state);
-            put_doubles(out, candidate);
+            put_double(out, *relative);
+            put_vectors(out, &[*absolute, *error, *state, *candidate]);
         }
         Call::Show => out.push(SHOW),
         Call::Load(image) => {
             out.push(LOAD);
             put_image(out, image);
+        }
+        Call::BringOver(image) => {
+            out.push(BRING_OVER);
+            image.put(out);
         }
     }
 }

@@ -1,17 +1,19 @@
 //! The fixed script: every op, every refusal number on the session and on what is handed in, the order of the
-//! checks, every scheme with a Jacobian supplied and differenced, and the examples of document 01. The list adds
-//! random calls to it, so that the gate replays them too.
+//! checks, every scheme with a Jacobian supplied and differenced, the examples of document 01, tolerances that differ
+//! and old sessions. The list adds random calls to it, so that the gate replays them too.
 
 use crate::bits::power_of_two;
 use crate::console::Call;
 use crate::field::Field;
 use crate::lists::List;
 use crate::model::{Answer, Attempt, Matrix, Opening, PLACES, Session, Vector};
+use crate::old_session::OldSession;
 use crate::pass::{ETD2, QUESTIONS};
 use crate::random::Random;
 use crate::random_script::extended;
 use crate::refused::{self, Kind};
 use crate::script::Script;
+use crate::tolerances::alike;
 
 /// The random calls of the list, and their seed.
 const RANDOM_CALLS: usize = 3400;
@@ -45,6 +47,9 @@ pub fn fixed_script() -> Script {
     refusals_by_6(&mut script);
     forged_past_a_refused_question(&mut script);
     bytes_that_count_as_others(&mut script);
+    tolerances_that_differ(&mut script);
+    tolerances_refused(&mut script);
+    old_sessions(&mut script);
     script.call(&Call::Show);
     script
 }
@@ -69,7 +74,7 @@ fn opening(scheme: usize, state: f64, derivative: f64) -> Opening {
         history_held: false,
         time: 0.0,
         relative: 1.0,
-        absolute: 1.0,
+        absolute: vector(&[1.0]),
         state: vector(&[state]),
         derivative: vector(&[derivative]),
         history: vector(&[]),
@@ -123,7 +128,7 @@ fn examples(script: &mut Script) {
     script.call(&Call::ErrorNorm {
         n: 1,
         relative: 1.0,
-        absolute: 1.0,
+        absolute: vector(&[1.0]),
         error: vector(&[-3.0]),
         state: vector(&[]),
         candidate: vector(&[]),
@@ -140,7 +145,7 @@ fn whole_run(script: &mut Script, scheme: usize, supplied: bool, random: &mut Ra
     opening.n = n as u8;
     opening.time = random.unit();
     opening.relative = 1e-4;
-    opening.absolute = 1e-7;
+    opening.absolute = alike(n, 1e-7);
     opening.state = vector(&state);
     opening.derivative = vector(&field.at(opening.time, &state));
     script.call(&Call::Open(opening));
@@ -213,7 +218,7 @@ fn checks_on_the_session(script: &mut Script) {
                 };
             }
             if sound < 4 {
-                session.absolute = -1.0;
+                session.absolute[0] = -1.0;
             }
             if sound < 5 && session.attempt != Attempt::None {
                 session.step = f64::INFINITY;
@@ -248,10 +253,12 @@ fn in_attempt(count: usize) -> Session {
 
 /// One thing wrong at a time, shown by drop, which takes every phase.
 fn every_condition_of_1_and_2(script: &mut Script) {
-    let wrongs: [fn(&mut Session); 24] = [
+    let wrongs: [fn(&mut Session); 26] = [
         |s| s.n = 0,
         |s| s.n = 17,
         |s| s.n = 255,
+        |s| s.absolute[1] = 1.0,
+        |s| s.absolute[15] = -0.0,
         |s| s.state[1] = 1.0,
         |s| s.derivative[15] = f64::NAN,
         |s| s.history[0] = 1.0,
@@ -322,7 +329,7 @@ fn checks_on_what_is_handed_in(script: &mut Script) {
         |o| o.state[1] = -0.0,
         |o| o.history[3] = 1.0,
         |o| o.history_held = true,
-        |o| o.absolute = f64::INFINITY,
+        |o| o.absolute[0] = f64::INFINITY,
         |o| o.derivative[0] = f64::NEG_INFINITY,
     ];
     for wrong in openings {
@@ -421,10 +428,10 @@ fn bare_calls(script: &mut Script, random: &mut Random) {
     ] {
         script.call(&call);
     }
-    let norm = |n, tolerances: [f64; 2], error: &[f64], state: &[f64]| Call::ErrorNorm {
+    let norm = |n: u8, tolerances: [f64; 2], error: &[f64], state: &[f64]| Call::ErrorNorm {
         n,
         relative: tolerances[0],
-        absolute: tolerances[1],
+        absolute: alike(usize::from(n), tolerances[1]),
         error: vector(error),
         state: vector(state),
         candidate: vector(&[]),
@@ -517,9 +524,168 @@ fn bytes_that_count_as_others(script: &mut Script) {
         let mut session = in_attempt(0);
         session.attempt = Attempt::Differenced;
         session.jacobian[0] = 0.0;
+        let old = OldSession { history_held: true, ..OldSession::of(&session, 1.0) };
         written_as(&Call::Load(Box::new(session)), 4, byte);
         written_as(&supply(1.0), 0, crate::console::SUPPLY);
         written_as(&Call::Show, 0, crate::console::SHOW);
+        for place in [3, 4] {
+            written_as(&Call::BringOver(Box::new(old.clone())), place, byte);
+            written_as(&Call::Show, 0, crate::console::SHOW);
+        }
+    }
+}
+
+/// The tolerances of three components.
+const DIFFERENT: [f64; 3] = [1e-3, 0.25, 3e4];
+
+/// Exprb32 in three components, each with its own tolerance.
+fn opening_of_three() -> Opening {
+    Opening {
+        n: 3,
+        absolute: vector(&DIFFERENT),
+        state: vector(&[1.0, -0.5, 2e4]),
+        derivative: vector(&[-0.1, 2.0, -3e3]),
+        relative: 1e-5,
+        ..opening(14, 0.0, 0.0)
+    }
+}
+
+fn begin_of_three() -> Call {
+    let jacobian = matrix(&[-1.0, 0.5, 0.0, 0.25, -2.0, 1e-4, 0.0, 3.0, -0.5]);
+    Call::Begin { supplied: true, step: 0.125, jacobian, lent: 3 }
+}
+
+fn norm_of_three(absolute: &[f64]) -> Call {
+    Call::ErrorNorm {
+        n: 3,
+        relative: 1e-5,
+        absolute: vector(absolute),
+        error: vector(&[1e-4, -0.5, 7e4]),
+        state: vector(&[1.0, -0.5, 2e4]),
+        candidate: vector(&[-2.0, 0.25, 1e4]),
+    }
+}
+
+/// The norm of an attempt, the first step in every phase, and the bare norm, in every order of the three tolerances.
+fn tolerances_that_differ(script: &mut Script) {
+    for order in [[0, 1, 2], [0, 2, 1], [1, 0, 2], [1, 2, 0], [2, 0, 1], [2, 1, 0]] {
+        let absolute = order.map(|place| DIFFERENT[place]);
+        let first_step = Call::FirstStep { largest: f64::INFINITY };
+        script.call(&Call::Open(Opening { absolute: vector(&absolute), ..opening_of_three() }));
+        script.call(&first_step);
+        script.call(&begin_of_three());
+        script.call(&first_step);
+        script.call(&Call::Supply { answer: vector(&[0.1, 1.5, -2e3]), lent: 3 });
+        script.call(&first_step);
+        script.call(&Call::Accept { derivative: vector(&[0.2, 1.0, -2.5e3]) });
+        script.call(&first_step);
+        script.call(&norm_of_three(&absolute));
+    }
+    script.call(&Call::Show);
+    // Sixteen, each twice the one before.
+    let absolute: Vec<f64> = (0..PLACES).map(|place| power_of_two(place as i32 - 8)).collect();
+    let whole = Opening {
+        n: PLACES as u8,
+        absolute: vector(&absolute),
+        state: [1.0; PLACES],
+        derivative: [-2.0; PLACES],
+        ..opening(15, 0.0, 0.0)
+    };
+    script.call(&Call::Open(whole.clone()));
+    script.call(&Call::FirstStep { largest: 1.0 });
+    script.call(&Call::Begin { supplied: true, step: 0.5, jacobian: matrix(&[]), lent: PLACES });
+    for answer in [-1.5, -1.0] {
+        script.call(&Call::Supply { answer: [answer; PLACES], lent: PLACES });
+    }
+    script.call(&Call::ErrorNorm {
+        n: whole.n,
+        relative: 1.0,
+        absolute: whole.absolute,
+        error: whole.derivative,
+        state: whole.state,
+        candidate: vector(&[]),
+    });
+    script.call(&Call::Show);
+}
+
+/// Each place of the tolerances with each kind of number that does not belong there, handed to open and to the bare
+/// norm, and in a session.
+fn tolerances_refused(script: &mut Script) {
+    let bad = [f64::NAN, f64::INFINITY, f64::NEG_INFINITY, 0.0, -0.0, -1.0, -5e-324];
+    let misplaced = [f64::NAN, f64::INFINITY, 1.0, -1.0, -0.0, 5e-324];
+    let in_use = bad.map(|tolerance| [0, 1, 2].map(|place| (place, tolerance)));
+    let past = misplaced.map(|number| [3, 9, 15].map(|place| (place, number)));
+    for (place, number) in in_use.into_iter().chain(past).flatten() {
+        let mut absolute = vector(&DIFFERENT);
+        absolute[place] = number;
+        let opening = Opening { absolute, ..opening_of_three() };
+        script.call(&norm_of_three(&absolute));
+        script.call(&Call::Load(Box::new(Session { absolute, ..Session::open(&opening_of_three()).1 })));
+        script.call(&Call::FirstStep { largest: 1.0 });
+        script.call(&Call::Drop);
+        script.call(&Call::Open(opening));
+    }
+    // A number past n comes before a scheme that is none, a bad tolerance after it and before a time that is NaN.
+    let wrongs: [fn(&mut Opening); 3] = [
+        |o| {
+            o.absolute[3] = -0.0;
+            o.scheme = 16;
+        },
+        |o| {
+            o.absolute[2] = 0.0;
+            o.scheme = 16;
+        },
+        |o| {
+            o.absolute[2] = 0.0;
+            o.time = f64::NAN;
+        },
+    ];
+    for wrong in wrongs {
+        let mut opening = opening_of_three();
+        wrong(&mut opening);
+        script.call(&Call::Open(opening));
+    }
+    script.call(&Call::Show);
+}
+
+/// Sessions of the layout with one tolerance, of every kind of dimension; then one in the middle of an attempt, and
+/// one that is refused by each number.
+fn old_sessions(script: &mut Script) {
+    let resting = OldSession::of(&Session::open(&opening_of_three()).1, 0.125);
+    for n in [0, 1, 3, 15, 16, 17, 255] {
+        script.call(&Call::BringOver(Box::new(OldSession { n, ..resting.clone() })));
+        script.call(&Call::Show);
+        script.call(&Call::FirstStep { largest: f64::INFINITY });
+        script.call(&Call::Drop);
+    }
+    script.call(&Call::Open(Opening { absolute: alike(3, 0.125), ..opening_of_three() }));
+    script.call(&begin_of_three());
+    let asking = OldSession::of(&script.console.session, 0.125);
+    script.call(&Call::Open(opening_of_three()));
+    script.call(&Call::BringOver(Box::new(asking.clone())));
+    script.call(&Call::Show);
+    script.call(&Call::Supply { answer: vector(&[0.1, 1.5, -2e3]), lent: 3 });
+    script.call(&Call::FirstStep { largest: f64::INFINITY });
+    script.call(&Call::Accept { derivative: vector(&[0.2, 1.0, -2.5e3]) });
+    script.call(&Call::Show);
+    let wrongs: [fn(&mut OldSession); 9] = [
+        |s| s.state[3] = -0.0,
+        |s| s.scheme = 1,
+        |s| s.history_held = true,
+        |s| s.absolute = f64::NAN,
+        |s| s.absolute = -0.0,
+        |s| s.absolute = f64::INFINITY,
+        |s| s.relative = 0.0,
+        |s| s.step = 0.0,
+        |s| s.time = f64::NAN,
+    ];
+    for wrong in wrongs {
+        let mut old = asking.clone();
+        old.count = 1;
+        wrong(&mut old);
+        script.call(&Call::BringOver(Box::new(old)));
+        script.call(&Call::Show);
+        script.call(&Call::Drop);
     }
 }
 

@@ -16,6 +16,7 @@ mod float_list;
 pub mod lists;
 mod matrix_list;
 pub mod model;
+pub mod old_session;
 pub mod order;
 pub mod pass;
 mod pass_list;
@@ -24,6 +25,7 @@ pub mod random_script;
 pub mod refused;
 pub mod script;
 pub mod search;
+pub mod tolerances;
 pub mod watch;
 
 pub use stand_ins::{

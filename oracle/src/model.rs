@@ -4,7 +4,8 @@
 //! session that follows; a refused call hands back the one it was given and leaves the lent output alone.
 
 use crate::pass::{self, ETD2, Outcome, QUESTIONS, Start, all_finite};
-use crate::{OdeProblem, SolveError, SolveOptions, SolverStats, compared, watch};
+use crate::tolerances::Tolerances;
+use crate::{OdeProblem, SolveError, SolverStats, compared, watch};
 use std::cell::{Cell, RefCell};
 
 /// The largest dimension.
@@ -35,7 +36,8 @@ pub struct Session {
     pub time: f64,
     pub step: f64,
     pub relative: f64,
-    pub absolute: f64,
+    /// A tolerance for each of the first n components, +0.0 in the other places.
+    pub absolute: Vector,
     pub state: Vector,
     pub derivative: Vector,
     pub history: Vector,
@@ -63,7 +65,8 @@ pub struct Opening {
     pub history_held: bool,
     pub time: f64,
     pub relative: f64,
-    pub absolute: f64,
+    /// A tolerance for each of the first n components, +0.0 in the other places.
+    pub absolute: Vector,
     pub state: Vector,
     pub derivative: Vector,
     pub history: Vector,
@@ -88,10 +91,6 @@ fn dimension_is_bad(n: u8) -> bool {
     !(1..=PLACES).contains(&usize::from(n))
 }
 
-fn tolerance_is_bad(tolerance: f64) -> bool {
-    !(tolerance.is_finite() && tolerance > 0.0)
-}
-
 fn step_is_bad(step: f64) -> bool {
     !step.is_finite() || step == 0.0
 }
@@ -108,7 +107,7 @@ impl Session {
             time: 0.0,
             step: 0.0,
             relative: 0.0,
-            absolute: 0.0,
+            absolute: [0.0; PLACES],
             state: [0.0; PLACES],
             derivative: [0.0; PLACES],
             history: [0.0; PLACES],
@@ -154,6 +153,7 @@ impl Session {
         let used = |held: bool, places: usize| if held { places } else { 0 };
         let count = self.used_answers().len();
         dimension_is_bad(self.n)
+            || !unused(&self.absolute[n..])
             || !unused(&self.state[n..])
             || !unused(&self.derivative[n..])
             || !unused(&self.history[used(self.history_held, n)..])
@@ -188,14 +188,15 @@ impl Session {
             (1, &|| self.has_misplaced_numbers()),
             (2, &|| self.is_inconsistent()),
             (7, &|| wrong_phase(self)),
-            (4, &|| tolerance_is_bad(self.relative) || tolerance_is_bad(self.absolute)),
+            (4, &|| self.tolerances().are_bad()),
             (5, &|| self.has_attempt() && step_is_bad(self.step)),
             (3, &|| self.has_numbers_not_finite()),
         ])
     }
 
-    fn options(&self) -> SolveOptions {
-        SolveOptions::tolerances(self.relative, self.absolute)
+    /// The tolerances that count; the dimension is known to be one.
+    fn tolerances(&self) -> Tolerances<'_> {
+        Tolerances { relative: self.relative, absolute: &self.absolute[..self.n()] }
     }
 
     /// At rest, the run as it is.
@@ -289,12 +290,7 @@ impl Session {
             Outcome::Candidate(pass) => {
                 lent.copy_from_slice(&pass.candidate);
                 let n = next.n();
-                let norm = compared::scaled_error_norm(
-                    &pass.error,
-                    &next.state[..n],
-                    &pass.candidate,
-                    &next.options(),
-                );
+                let norm = next.tolerances().error_norm(&pass.error, &next.state[..n], &pass.candidate);
                 let ready = Answer::Ready { norm, right_hand_sides: next.questions() as u32, jacobians: 1 };
                 (ready, next)
             }
@@ -410,13 +406,8 @@ impl Session {
             return (Answer::Refused(5), self);
         }
         let n = self.n();
-        let step = compared::estimate_initial_step(
-            &self.state[..n],
-            &self.derivative[..n],
-            largest,
-            &self.options(),
-        );
-        (Answer::FirstStep(step.expect("it asks nothing")), self)
+        let step = self.tolerances().first_step(&self.state[..n], &self.derivative[..n], largest);
+        (Answer::FirstStep(step), self)
     }
 }
 
@@ -465,22 +456,24 @@ pub fn bare_phi_action(
 pub fn bare_error_norm(
     n: u8,
     relative: f64,
-    absolute: f64,
+    absolute: &Vector,
     error: &Vector,
     state: &Vector,
     candidate: &Vector,
 ) -> Answer {
     let places = usize::from(n);
     let all = [error, state, candidate];
+    let tolerances = || Tolerances { relative, absolute: &absolute[..places] };
     let refusal = first_refusal(&[
-        (1, &|| dimension_is_bad(n) || all.iter().any(|v| !unused(&v[places..]))),
-        (4, &|| tolerance_is_bad(relative) || tolerance_is_bad(absolute)),
+        (1, &|| {
+            dimension_is_bad(n) || !unused(&absolute[places..]) || all.iter().any(|v| !unused(&v[places..]))
+        }),
+        (4, &|| tolerances().are_bad()),
         (3, &|| all.iter().any(|v| !all_finite(&v[..places]))),
     ]);
     if refusal != 0 {
         return Answer::Refused(refusal);
     }
-    let options = SolveOptions::tolerances(relative, absolute);
     let [error, state, candidate] = all.map(|v| &v[..places]);
-    Answer::Norm(compared::scaled_error_norm(error, state, candidate, &options))
+    Answer::Norm(tolerances().error_norm(error, state, candidate))
 }

@@ -9,6 +9,9 @@ pub const QUESTIONS: [usize; 16] = [0, 0, 1, 2, 3, 4, 2, 2, 2, 2, 2, 2, 2, 0, 1,
 /// The number of Etd2, the one scheme with a history.
 pub const ETD2: usize = 13;
 
+/// Exprb32 and Exprb43, the schemes with an error of their own.
+pub const ESTIMATING: [usize; 2] = [14, 15];
+
 /// What a pass starts from.
 #[derive(Clone, Debug)]
 pub struct Start {

@@ -3,12 +3,14 @@
 
 use crate::bits::power_of_two;
 use crate::bytes::Reader;
-use crate::console::{Call, SUPPLY, read_call};
+use crate::console::{BRING_OVER, Call, SUPPLY, read_call};
 use crate::field::Field;
 use crate::model::{ANSWERS, Answer, Attempt, Matrix, Opening, PLACES, Session, Vector};
+use crate::old_session::OldSession;
 use crate::pass::{ETD2, QUESTIONS};
 use crate::random::Random;
 use crate::script::Script;
+use crate::tolerances::alike;
 
 /// A script of about so many calls.
 pub fn random_script(seed: u64, calls: usize) -> Script {
@@ -52,7 +54,7 @@ pub fn damaged(script: &[u8], seed: u64) -> Vec<u8> {
     }
     match random.below(3) {
         0 => bytes.truncate(random.below(bytes.len())),
-        1 => bytes.extend([random.pick(&[11, 12, 200, 255]), 4, 4, 9]),
+        1 => bytes.extend([random.pick(&[BRING_OVER + 1, BRING_OVER + 2, 200, 255]), 4, 4, 9]),
         _ => bytes.extend([&[SUPPLY][..], &[0; PLACES * 8], &[1, 2], &[9]].concat()),
     }
     bytes
@@ -123,19 +125,19 @@ impl Host {
 
     fn turn(&mut self) {
         match self.random.below(100) {
-            0..=3 => self.forge(),
-            4..=7 => self.bare(),
-            8..=9 => self.call(Call::Show),
-            10..=12 => {
+            0..=4 => self.forge(),
+            5..=8 => self.bare(),
+            9..=10 => self.call(Call::Show),
+            11..=13 => {
                 let opening = self.damaged_opening();
                 self.call(Call::Open(opening));
             }
-            13..=15 => {
+            14..=16 => {
                 let largest = self.largest();
                 self.call(Call::FirstStep { largest });
             }
-            16..=17 => self.call(Call::Drop),
-            18..=25 => self.err(),
+            17..=18 => self.call(Call::Drop),
+            19..=26 => self.err(),
             _ => self.forward(),
         }
     }
@@ -193,25 +195,50 @@ impl Host {
             history_held: held,
             time,
             relative: self.random.pick(&[1e-3, 1e-6, 1.0, 1e-320]),
-            absolute: self.random.pick(&[1e-6, 1e-9, 1.0, 1e300]),
+            absolute: self.tolerances(n),
             state,
             derivative,
             history,
         }
     }
 
+    /// All equal, or all but one, or each its own.
+    fn tolerances(&mut self, n: usize) -> Vector {
+        let mut absolute = alike(n, self.tolerance());
+        match self.random.below(5) {
+            0 | 1 => {}
+            2 => absolute[self.random.below(n)] = self.tolerance(),
+            _ => absolute[..n].fill_with(|| self.tolerance()),
+        }
+        absolute
+    }
+
+    fn tolerance(&mut self) -> f64 {
+        let size = self.random.pick(&[1e-6, 1e-9, 1.0, 1.0, 1e3, 1e300, 5e-324]);
+        if self.random.chance(2) { size } else { size * (1.0 + self.random.unit().abs()) }
+    }
+
+    /// Puts a number that is no tolerance, or an odd one, into one of the first n places; every third time past them.
+    fn damage_tolerances(&mut self, n: usize, absolute: &mut Vector) {
+        let n = n.min(PLACES);
+        let past = n == 0 || n < PLACES && self.random.chance(3);
+        let place = if past { n + self.random.below(PLACES - n) } else { self.random.below(n) };
+        let bad = [f64::NAN, f64::INFINITY, 0.0, -0.0, -1e-6];
+        absolute[place] = if self.random.chance(2) { self.random.pick(&bad) } else { self.odd() };
+    }
+
     fn damaged_opening(&mut self) -> Opening {
         let mut opening = self.opening();
         for _ in 0..=self.random.below(2) {
-            match self.random.below(9) {
+            match self.random.below(10) {
                 0 => opening.n = self.random.pick(&[0, 17, 200, 255, 1, 16]),
                 1 => opening.scheme = self.random.pick(&[16, 17, 255, 13, 0]),
                 2 => opening.history_held = !opening.history_held,
                 3 => opening.time = self.odd(),
                 4 => opening.relative = self.odd(),
-                5 => opening.absolute = self.odd(),
-                6 => self.damage(&mut opening.state),
-                7 => self.damage(&mut opening.derivative),
+                5 | 6 => self.damage_tolerances(usize::from(opening.n), &mut opening.absolute),
+                7 => self.damage(&mut opening.state),
+                8 => self.damage(&mut opening.derivative),
                 _ => self.damage(&mut opening.history),
             }
         }
@@ -356,7 +383,7 @@ impl Host {
         self.call(call);
     }
 
-    /// Loads a session that no call made, and makes a few calls with it.
+    /// Loads a session that no call made, or brings an old one over, and makes a few calls with it.
     fn forge(&mut self) {
         let mut session = if self.random.chance(2) { self.consistent() } else { self.session().clone() };
         if !self.random.chance(3) {
@@ -364,7 +391,12 @@ impl Host {
                 self.tamper(&mut session);
             }
         }
-        self.script.call(&Call::Load(Box::new(session)));
+        let call = if self.random.chance(3) {
+            Call::BringOver(Box::new(self.old(&session)))
+        } else {
+            Call::Load(Box::new(session))
+        };
+        self.script.call(&call);
         for _ in 0..=self.random.below(3) {
             match self.random.below(8) {
                 0 => self.call(Call::Drop),
@@ -409,10 +441,25 @@ impl Host {
         session
     }
 
+    /// The session as it would have been saved before each component had a tolerance of its own.
+    fn old(&mut self, session: &Session) -> OldSession {
+        let absolute = if self.random.chance(6) { self.odd() } else { self.tolerance() };
+        let mut old = OldSession::of(session, absolute);
+        if self.random.chance(10) {
+            old.n = self.random.pick(&[0, 16, 17, 128, 255]);
+        }
+        old
+    }
+
     fn tamper(&mut self, session: &mut Session) {
-        match self.random.below(14) {
+        match self.random.below(16) {
             0 => session.scheme = self.random.pick(&[16, 255, 13, 0, 5, 15]),
-            1 => session.n = self.random.pick(&[0, 17, 255, 1, 2, 16]),
+            1 => {
+                session.n = self.random.pick(&[0, 17, 255, 1, 2, 16]);
+                if self.random.chance(2) {
+                    session.absolute = alike(usize::from(session.n), self.tolerance());
+                }
+            }
             2 => session.history_held = !session.history_held,
             3 => {
                 let kinds = [Attempt::None, Attempt::Supplied, Attempt::Differenced];
@@ -422,11 +469,11 @@ impl Host {
             5 => session.time = self.odd(),
             6 => session.step = self.odd(),
             7 => session.relative = self.odd(),
-            8 => session.absolute = self.odd(),
-            9 => self.damage(&mut session.state),
-            10 => self.damage(&mut session.derivative),
-            11 => self.damage(&mut session.history),
-            12 => self.damage(&mut session.jacobian),
+            8..=10 => self.damage_tolerances(usize::from(session.n), &mut session.absolute),
+            11 => self.damage(&mut session.state),
+            12 => self.damage(&mut session.derivative),
+            13 => self.damage(&mut session.history),
+            14 => self.damage(&mut session.jacobian),
             _ => {
                 let place = self.random.below(ANSWERS);
                 self.damage(&mut session.answers[place]);
@@ -514,19 +561,21 @@ impl Host {
         let mut error = self.vector(n, size);
         let mut state = self.vector(n, 1.0);
         let mut candidate = self.vector(n, 1.0);
-        let mut tolerances = [1e-3, 1e-6];
-        if self.random.chance(3) {
-            match self.random.below(5) {
+        let mut relative = 1e-3;
+        let mut absolute = self.tolerances(n);
+        if self.random.chance(2) {
+            match self.random.below(6) {
                 0 => self.damage(&mut error),
                 1 => self.damage(&mut state),
                 2 => self.damage(&mut candidate),
-                _ => self.damage(&mut tolerances),
+                3 => relative = self.odd(),
+                _ => self.damage_tolerances(n, &mut absolute),
             }
         }
         Call::ErrorNorm {
             n: if self.random.chance(10) { self.random.pick(&[0, 17, 255]) } else { n as u8 },
-            relative: tolerances[0],
-            absolute: tolerances[1],
+            relative,
+            absolute,
             error,
             state,
             candidate,

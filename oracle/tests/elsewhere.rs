@@ -160,7 +160,7 @@ fn small_step(scheme: usize, step: f64) -> (Option<f64>, Answer) {
         history_held: false,
         time: 0.0,
         relative: 1.0,
-        absolute: 1.0,
+        absolute: first(1.0),
         state: first(1.0),
         derivative: first(rhs(1.0)),
         history: [0.0; PLACES],

@@ -1,8 +1,9 @@
 //! The model's image and replies have the layout that the core's crate `image` has: crates/layout writes its constants, and the gate holds that
 //! program to its stdout.
 
-use oracle::console::{put_answer, put_image};
+use oracle::console::{self, BRING_OVER, BYTES, FIGURES, NUMBERS, SHOW, put_answer, put_image};
 use oracle::model::{ANSWERS, Answer, Attempt, PLACES, Session};
+use oracle::old_session::{OLD_BYTES, OLD_FIGURES, OldSession};
 
 fn constant(name: &str) -> usize {
     let lines = include_str!("../../crates/layout/stdout").lines();
@@ -33,6 +34,9 @@ fn an_image_has_its_fields_where_the_core_has_them() {
     assert_eq!(constant("VECTOR"), PLACES);
     assert_eq!(constant("MATRIX"), PLACES * PLACES);
     assert_eq!(constant("ANSWERS"), ANSWERS * PLACES);
+    assert_eq!(constant("NUMBERS"), NUMBERS);
+    assert_eq!(constant("FIGURES"), FIGURES);
+    assert_eq!(constant("BYTES"), BYTES);
     // A different number in every place, in the order of the fields.
     let mut next = 0.0;
     let mut one = || {
@@ -45,14 +49,14 @@ fn an_image_has_its_fields_where_the_core_has_them() {
     session.time = one();
     session.step = one();
     session.relative = one();
-    session.absolute = one();
+    session.absolute = std::array::from_fn(|_| one());
     session.state = std::array::from_fn(|_| one());
     session.derivative = std::array::from_fn(|_| one());
     session.history = std::array::from_fn(|_| one());
     session.jacobian = std::array::from_fn(|_| one());
     session.answers = std::array::from_fn(|_| std::array::from_fn(|_| one()));
     let bytes = image(&session);
-    assert_eq!(bytes.len(), constant("NUMBERS") + 8 * constant("FIGURES"));
+    assert_eq!(bytes.len(), BYTES);
     assert_eq!(number(&bytes, "SCHEME_AT"), session.scheme);
     assert_eq!(number(&bytes, "N_AT"), session.n);
     assert_eq!(number(&bytes, "HISTORY_AT"), 1);
@@ -61,8 +65,8 @@ fn an_image_has_its_fields_where_the_core_has_them() {
     assert_eq!(figure(&bytes, constant("TIME_AT")), session.time);
     assert_eq!(figure(&bytes, constant("STEP_AT")), session.step);
     assert_eq!(figure(&bytes, constant("RELATIVE_AT")), session.relative);
-    assert_eq!(figure(&bytes, constant("ABSOLUTE_AT")), session.absolute);
     for i in 0..PLACES {
+        assert_eq!(figure(&bytes, constant("ABSOLUTE_AT") + i), session.absolute[i]);
         assert_eq!(figure(&bytes, constant("STATE_AT") + i), session.state[i]);
         assert_eq!(figure(&bytes, constant("DERIVATIVE_AT") + i), session.derivative[i]);
         assert_eq!(figure(&bytes, constant("PREVIOUS_AT") + i), session.history[i]);
@@ -73,6 +77,34 @@ fn an_image_has_its_fields_where_the_core_has_them() {
     for i in 0..ANSWERS * PLACES {
         assert_eq!(figure(&bytes, constant("ANSWERS_AT") + i), session.answers[i / PLACES][i % PLACES]);
     }
+}
+
+/// The page's order of an old image: the numbers, then every figure in its turn.
+#[test]
+fn an_old_image_has_one_tolerance() {
+    assert_eq!(constant("OLD_FIGURES"), OLD_FIGURES);
+    assert_eq!(constant("OLD_BYTES"), OLD_BYTES);
+    let figures: Vec<f64> = (1..=OLD_FIGURES).map(|place| place as f64).collect();
+    let places = |from: usize| std::array::from_fn(|i| figures[from + i]);
+    let mut session = Session::blank();
+    (session.scheme, session.n, session.count) = (201, 3, 203);
+    (session.history_held, session.attempt) = (true, Attempt::Supplied);
+    (session.time, session.step, session.relative) = (1.0, 2.0, 3.0);
+    session.state = places(4);
+    session.derivative = places(20);
+    session.history = places(36);
+    session.jacobian = std::array::from_fn(|i| figures[52 + i]);
+    session.answers = std::array::from_fn(|i| places(308 + PLACES * i));
+    let mut bytes = Vec::new();
+    OldSession::of(&session, 4.0).put(&mut bytes);
+    let doubles: Vec<u8> = figures.iter().flat_map(|figure| figure.to_le_bytes()).collect();
+    assert_eq!(bytes, [&[201, 3, 1, 1, 203][..], &doubles].concat());
+    // Brought over, it is the same session with that tolerance in its first three places.
+    session.absolute[..3].fill(4.0);
+    let mut script = vec![BRING_OVER];
+    script.extend(bytes);
+    script.push(SHOW);
+    assert_eq!(console::run(&script), image(&session));
 }
 
 #[test]

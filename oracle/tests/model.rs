@@ -3,7 +3,7 @@
 use oracle::bits::{pattern, same};
 use oracle::bytes::Reader;
 use oracle::compare::first_difference;
-use oracle::console::{self, BEFORE, Call, Console, put_call, put_image, read_call};
+use oracle::console::{self, BEFORE, BRING_OVER, Call, Console, put_call, put_image, read_call};
 use oracle::field::Field;
 use oracle::fixed_script::fixed_script;
 use oracle::model::{Answer, Attempt, Opening, PLACES, Session, Vector, bare_exponential, bare_phi_action};
@@ -12,6 +12,7 @@ use oracle::random::Random;
 use oracle::random_script::{damaged, random_script};
 use oracle::refused::{self, Kind};
 use oracle::script::{Script, Tally};
+use oracle::tolerances::alike;
 use oracle::{OdeProblem, SolveOptions, SolverStats, published};
 
 fn vector(values: &[f64]) -> Vector {
@@ -55,7 +56,7 @@ fn beside_the_kernel(scheme: usize, n: usize, supplied: bool, random: &mut Rando
         history_held: false,
         time,
         relative,
-        absolute,
+        absolute: alike(n, absolute),
         state: vector(&state),
         derivative: vector(&field.at(time, &state)),
         history: vector(&[]),
@@ -168,9 +169,12 @@ fn the_fixed_script_covers_every_op_and_refusal() {
         ("bare error norm", "norm"),
         ("show", "done"),
         ("load", "done"),
+        ("bring over", "done"),
     ] {
         seen(op, outcome);
     }
+    every_kind_of_tolerance_was_seen(&script.tally, 1);
+    every_kind_of_old_session_was_seen(&script.tally, &[1, 2, 3, 4, 5], 1);
     for scheme in 0..16 {
         for supplied in [true, false] {
             assert!(script.tally.ready.contains_key(&(scheme, supplied)));
@@ -228,6 +232,51 @@ fn the_random_scripts_cover_what_a_host_can_do() {
         assert!(tally.kinds[kind] > 50, "{kind}");
     }
     assert!(tally.outcomes[&("load", "done".into())] > 50);
+    every_kind_of_tolerance_was_seen(&tally, 5);
+    every_kind_of_old_session_was_seen(&tally, &[1, 2, 3, 4, 5, 6, 7], 5);
+    for (holder, figure) in [
+        ("tolerances of open", "opened"),
+        ("tolerances of a session", "norm"),
+        ("tolerances of a session", "first step"),
+        ("tolerances of the bare error norm", "norm"),
+    ] {
+        for kind in ["equal", "unequal"] {
+            seen_often(&tally, holder, &format!("{figure} by {kind} ones"), 100);
+        }
+    }
+    seen_often(&tally, OLD, "accepted in the attempt they came with", 50);
+}
+
+const OLD: &str = "sessions brought over";
+
+fn seen_often(tally: &Tally, heading: &'static str, what: &str, least: usize) {
+    let count = tally.seen.get(&(heading, what.to_string())).copied().unwrap_or(0);
+    assert!(count >= least, "{heading}: {what} {count}");
+}
+
+/// Each single one bad, in every kind of place, and what stands past n.
+fn every_kind_of_tolerance_was_seen(tally: &Tally, least: usize) {
+    for holder in ["tolerances of open", "tolerances of a session", "tolerances of the bare error norm"] {
+        for what in ["one NaN", "one infinite", "one +0.0", "one -0.0", "one negative"] {
+            seen_often(tally, holder, what, least);
+        }
+        for what in ["bad in the first place", "bad in the last of several", "bad between"] {
+            seen_often(tally, holder, what, least);
+        }
+        for what in ["a number past n", "-0.0 past n"] {
+            seen_often(tally, holder, what, least);
+        }
+    }
+}
+
+fn every_kind_of_old_session_was_seen(tally: &Tally, refusals: &[u8], least: usize) {
+    for what in ["at rest", "in an attempt", "n 0", "n above 16", "ready", "first step"] {
+        seen_often(tally, OLD, what, least);
+    }
+    seen_often(tally, OLD, "accepted in the attempt they came with", least);
+    for number in refusals {
+        seen_often(tally, OLD, &format!("refused by {number}"), least);
+    }
 }
 
 /// The checks on a session and on what is handed in, each with everything after it wrong too.
@@ -239,7 +288,7 @@ fn checks_run_in_the_order_of_document_01() {
         history_held: false,
         time: 0.0,
         relative: 1.0,
-        absolute: 1.0,
+        absolute: vector(&[1.0]),
         state: vector(&[1.0]),
         derivative: vector(&[2.0]),
         history: vector(&[]),
@@ -280,7 +329,7 @@ fn open(scheme: u8, time: f64, state: f64, derivative: f64) -> Session {
         history_held: false,
         time,
         relative: 1.0,
-        absolute: 1.0,
+        absolute: vector(&[1.0]),
         state: vector(&[state]),
         derivative: vector(&[derivative]),
         history: vector(&[]),
@@ -378,7 +427,7 @@ fn a_differenced_column_is_tested_when_its_own_answer_is_in() {
         history_held: false,
         time: 0.0,
         relative: 1.0,
-        absolute: 1.0,
+        absolute: vector(&[1.0, 1.0]),
         state: vector(&[0.0, 0.0]),
         derivative: vector(&[0.0, 0.0]),
         history: vector(&[]),
@@ -595,7 +644,7 @@ fn a_script_ends_where_the_page_says() {
     assert_eq!(reply.len(), 18);
     let too_many = [&[6, 1, 1, 2, 1, 0][..], &[0; 513 * 8]].concat();
     let too_long = [&[2][..], &[0; PLACES * 8], &[1, 2]].concat();
-    let ends: [&[u8]; 5] = [&[11], &[255], &[5, 0, 0], &too_many, &too_long];
+    let ends: [&[u8]; 5] = [&[BRING_OVER + 1], &[255], &[5, 0, 0], &too_many, &too_long];
     for end in ends {
         let script = [&good[..], end, &good].concat();
         assert_eq!(console::run(&script), reply);
