@@ -3,7 +3,7 @@
 use oracle::bits::{pattern, same};
 use oracle::bytes::Reader;
 use oracle::compare::first_difference;
-use oracle::console::{self, BEFORE, BRING_OVER, Call, Console, put_call, put_image, read_call};
+use oracle::console::{self, BEFORE, BRING_OVER, Call, Console, NUMBERS, put_call, put_image, read_call};
 use oracle::field::Field;
 use oracle::fixed_script::fixed_script;
 use oracle::model::{Answer, Attempt, Opening, PLACES, Session, Vector, bare_exponential, bare_phi_action};
@@ -562,7 +562,7 @@ fn flipped_session(session: &Session, n: usize, mask: u32) -> Session {
 /// An image with its zeros all +0.
 fn without_zero_signs(session: &Session) -> Vec<u64> {
     let bytes = image(session);
-    let (head, doubles) = bytes.split_at(5);
+    let (head, doubles) = bytes.split_at(NUMBERS);
     let doubles = doubles.chunks(8).map(|chunk| {
         let x = f64::from_le_bytes(chunk.try_into().unwrap());
         pattern(if x == 0.0 { 0.0 } else { x })
