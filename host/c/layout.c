@@ -25,6 +25,9 @@ int main(void) {
     SAY(JACOBIAN_AT);
     SAY(ANSWERS_AT);
     SAY(FIGURES);
+    SAY(OLD_FIGURES);
+    SAY(BYTES);
+    SAY(OLD_BYTES);
     SAY(OUTCOME_AT);
     SAY(REFUSAL_AT);
     SAY(RHS_AT);

@@ -28,12 +28,17 @@ constants! {
     STEP_AT = TIME_AT + 1;
     RELATIVE_AT = STEP_AT + 1;
     ABSOLUTE_AT = RELATIVE_AT + 1;
-    STATE_AT = ABSOLUTE_AT + 1;
+    STATE_AT = ABSOLUTE_AT + VECTOR;
     DERIVATIVE_AT = STATE_AT + VECTOR;
     PREVIOUS_AT = DERIVATIVE_AT + VECTOR;
     JACOBIAN_AT = PREVIOUS_AT + VECTOR;
     ANSWERS_AT = JACOBIAN_AT + MATRIX;
     FIGURES = ANSWERS_AT + ANSWERS;
+    // under the old layout, which had one absolute tolerance
+    OLD_FIGURES = FIGURES - VECTOR + 1;
+    // bytes of a saved session: one for each number, eight for each figure
+    BYTES = NUMBERS + 8 * FIGURES;
+    OLD_BYTES = NUMBERS + 8 * OLD_FIGURES;
     // among the words of a reply
     OUTCOME_AT = 0;
     REFUSAL_AT = OUTCOME_AT + 1;

@@ -5,6 +5,9 @@
 //! step goes call by call: [`Session::begin`], [`Session::supply`] for each question, then [`Session::accept`] or
 //! [`Session::drop_attempt`].
 //!
+//! The absolute tolerance is one for all components or one for each ([`Tolerance`]). A session is saved as bytes by [`Session::save`] and
+//! brought back by [`Session::restore`].
+//!
 //! Every call ends, whatever numbers it got. A refused one gives a [`Refusal`] and leaves the session as it was, bit for bit.
 //!
 //! ```
@@ -29,8 +32,11 @@ use std::fmt;
 
 mod layout;
 mod raw;
+mod saving;
 #[cfg(test)]
 mod tests;
+
+pub use saving::RestoreError;
 
 /// The largest dimension of a session.
 pub const MOST: usize = layout::VECTOR;
@@ -209,6 +215,56 @@ pub struct Stepped {
     pub jacobians: u32,
 }
 
+/// The absolute tolerance: one for all components, or one for each.
+///
+/// A call that wants one takes whatever turns into it: `1e-9`, `&[1e-3, 1e-2]`, a slice, a `&Vec<f64>`.
+#[derive(Clone, Copy, Debug, PartialEq)]
+pub enum Tolerance<'a> {
+    /// The same for every component.
+    All(f64),
+    /// Each component's own: as many as there are components.
+    Each(&'a [f64]),
+}
+
+impl Tolerance<'_> {
+    // For n components, with zeros to 16 places; None where they are too many, or not n.
+    fn places(self, n: usize) -> Option<[f64; MOST]> {
+        match self {
+            Tolerance::All(one) => {
+                let mut all = [0.0; MOST];
+                all.get_mut(..n)?.fill(one);
+                Some(all)
+            }
+            Tolerance::Each(each) if each.len() == n => padded(each),
+            Tolerance::Each(_) => None,
+        }
+    }
+}
+
+impl From<f64> for Tolerance<'_> {
+    fn from(one: f64) -> Self {
+        Tolerance::All(one)
+    }
+}
+
+impl<'a> From<&'a [f64]> for Tolerance<'a> {
+    fn from(each: &'a [f64]) -> Self {
+        Tolerance::Each(each)
+    }
+}
+
+impl<'a, const N: usize> From<&'a [f64; N]> for Tolerance<'a> {
+    fn from(each: &'a [f64; N]) -> Self {
+        Tolerance::Each(each)
+    }
+}
+
+impl<'a> From<&'a Vec<f64>> for Tolerance<'a> {
+    fn from(each: &'a Vec<f64>) -> Self {
+        Tolerance::Each(each)
+    }
+}
+
 /// A run of one scheme: its time, state, derivative, tolerances and, between begin and accept, its attempt.
 #[derive(Clone, Debug)]
 pub struct Session {
@@ -259,29 +315,46 @@ fn padded(x: &[f64]) -> Option<[f64; MOST]> {
 }
 
 impl Session {
+    // All numbers and figures zero: every call refuses it by 1.
+    fn blank() -> Session {
+        Session {
+            numbers: [0; layout::NUMBERS],
+            figures: Box::new([0.0; layout::FIGURES]),
+        }
+    }
+
     /// Opens a run at `time` with the dimension of `state`, which has 1 to 16 entries, and the derivative there.
-    pub fn open(
+    ///
+    /// ```
+    /// use vunchrem::{Scheme, Session};
+    ///
+    /// // Metres, degrees and metres per second, each with a tolerance of its own.
+    /// let session = Session::open(Scheme::Exprb32, 0.0, &[1200.0, 3.0, 0.5], &[0.5, 0.0, 0.0], 1e-6, &[1e-3, 1e-2, 1e-4])?;
+    /// assert_eq!(session.absolute(), [1e-3, 1e-2, 1e-4]);
+    /// # Ok::<(), vunchrem::Refusal>(())
+    /// ```
+    pub fn open<'a>(
         scheme: Scheme,
         time: f64,
         state: &[f64],
         derivative: &[f64],
         relative: f64,
-        absolute: f64,
+        absolute: impl Into<Tolerance<'a>>,
     ) -> Result<Session, Refusal> {
-        Session::opened(scheme, time, state, derivative, relative, absolute, None)
+        Session::opened(scheme, time, state, derivative, relative, absolute.into(), None)
     }
 
     /// Opens a run under [`Scheme::Etd2`] that goes on from another: `history` is the nonlinear part f - J u that its last step kept.
-    pub fn open_with_history(
+    pub fn open_with_history<'a>(
         scheme: Scheme,
         time: f64,
         state: &[f64],
         derivative: &[f64],
         relative: f64,
-        absolute: f64,
+        absolute: impl Into<Tolerance<'a>>,
         history: &[f64],
     ) -> Result<Session, Refusal> {
-        Session::opened(scheme, time, state, derivative, relative, absolute, Some(history))
+        Session::opened(scheme, time, state, derivative, relative, absolute.into(), Some(history))
     }
 
     fn opened(
@@ -290,20 +363,19 @@ impl Session {
         state: &[f64],
         derivative: &[f64],
         relative: f64,
-        absolute: f64,
+        absolute: Tolerance,
         history: Option<&[f64]>,
     ) -> Result<Session, Refusal> {
         let n = state.len();
         if derivative.len() != n || history.is_some_and(|h| h.len() != n) {
             return Err(Refusal::Size);
         }
-        let (Some(u), Some(f0), Some(g)) = (padded(state), padded(derivative), padded(history.unwrap_or(&[]))) else {
+        let (Some(a), Some(u), Some(f0), Some(g)) =
+            (absolute.places(n), padded(state), padded(derivative), padded(history.unwrap_or(&[])))
+        else {
             return Err(Refusal::Size);
         };
-        let mut s = Session {
-            numbers: [0; layout::NUMBERS],
-            figures: Box::new([0.0; layout::FIGURES]),
-        };
+        let mut s = Session::blank();
         let mut t = Told::new();
         // SAFETY: each pointer and length is that of an array or slice that is lent for the call; no two of the lent ones overlap.
         let code = unsafe {
@@ -313,7 +385,8 @@ impl Session {
                 history.is_some() as u64,
                 time,
                 relative,
-                absolute,
+                a.as_ptr(),
+                a.len(),
                 u.as_ptr(),
                 u.len(),
                 f0.as_ptr(),
@@ -334,8 +407,9 @@ impl Session {
         Ok(s)
     }
 
+    // n, or 16 where bytes that were restored say more; then every call is refused by 1.
     fn n(&self) -> usize {
-        self.numbers[layout::N_AT] as usize
+        MOST.min(self.numbers[layout::N_AT] as usize)
     }
 
     // A Jacobian of another length than n * n is handed on with an output that does not fit, so that the core refuses it in its order.
@@ -441,10 +515,10 @@ impl Session {
     /// Accepts the candidate, with the derivative there: it becomes the state, and time moves on by the step.
     pub fn accept(&mut self, derivative: &[f64]) -> Result<(), Refusal> {
         if derivative.len() != self.n() {
-            // the phase is tested before what is handed in
+            // the session is tested before what is handed in, the arithmetic after it
             return match self.clone().accept(&vec![0.0; self.n()]) {
-                Err(Refusal::Phase) => Err(Refusal::Phase),
-                _ => Err(Refusal::Size),
+                Ok(()) | Err(Refusal::Arithmetic) => Err(Refusal::Size),
+                refused => refused,
             };
         }
         let d = padded(derivative).expect("n is at most 16");
@@ -519,6 +593,16 @@ impl Session {
     /// The derivative at the run's time and state, n entries.
     pub fn derivative(&self) -> &[f64] {
         &self.figures[layout::DERIVATIVE_AT..][..self.n()]
+    }
+
+    /// The relative tolerance.
+    pub fn relative(&self) -> f64 {
+        self.figures[layout::RELATIVE_AT]
+    }
+
+    /// The absolute tolerance of each component, n entries.
+    pub fn absolute(&self) -> &[f64] {
+        &self.figures[layout::ABSOLUTE_AT..][..self.n()]
     }
 
     /// One whole step: begins with a differenced Jacobian, answers every question by `f`, and accepts the candidate with `f` there.
@@ -659,11 +743,13 @@ pub fn phi_action(order: usize, scale: f64, matrix: &[f64], input: &[f64]) -> Re
 /// ```
 /// let norm = vunchrem::error_norm(1.0, 1.0, &[-3.0], &[0.0], &[0.0])?;
 /// assert_eq!(norm, 3.0);
+/// let norm = vunchrem::error_norm(1.0, &[1.0, 4.0], &[0.0, 8.0], &[0.0, 0.0], &[0.0, 0.0])?;
+/// assert_eq!(norm, 2f64.sqrt());
 /// # Ok::<(), vunchrem::Refusal>(())
 /// ```
-pub fn error_norm(
+pub fn error_norm<'a>(
     relative: f64,
-    absolute: f64,
+    absolute: impl Into<Tolerance<'a>>,
     error: &[f64],
     state: &[f64],
     candidate: &[f64],
@@ -672,7 +758,9 @@ pub fn error_norm(
     if state.len() != n || candidate.len() != n {
         return Err(Refusal::Size);
     }
-    let (Some(e), Some(u), Some(v)) = (padded(error), padded(state), padded(candidate)) else {
+    let (Some(a), Some(e), Some(u), Some(v)) =
+        (absolute.into().places(n), padded(error), padded(state), padded(candidate))
+    else {
         return Err(Refusal::Size);
     };
     let mut t = Told::new();
@@ -681,7 +769,8 @@ pub fn error_norm(
         raw::vunchrem_error_norm(
             n as u64,
             relative,
-            absolute,
+            a.as_ptr(),
+            a.len(),
             e.as_ptr(),
             e.len(),
             u.as_ptr(),

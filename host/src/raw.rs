@@ -8,7 +8,8 @@ extern "C" {
         held: u64,
         time: f64,
         relative: f64,
-        absolute: f64,
+        absolute: *const f64,
+        absolute_len: usize,
         state: *const f64,
         state_len: usize,
         derivative: *const f64,
@@ -116,7 +117,8 @@ extern "C" {
     pub fn vunchrem_error_norm(
         n: u64,
         relative: f64,
-        absolute: f64,
+        absolute: *const f64,
+        absolute_len: usize,
         error: *const f64,
         error_len: usize,
         state: *const f64,
@@ -127,5 +129,13 @@ extern "C" {
         words_len: usize,
         told: *mut f64,
         told_len: usize,
+    ) -> u32;
+    pub fn vunchrem_bring_over(
+        numbers: *const u64,
+        numbers_len: usize,
+        old: *const f64,
+        old_len: usize,
+        figures: *mut f64,
+        figures_len: usize,
     ) -> u32;
 }
