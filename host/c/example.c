@@ -1,4 +1,5 @@
-/* A stiff equation, u' = -1000 (u - cos t), stepped by Exprb32 from t = 0 to 0.1; then a NaN answer, a huge word and a wrong length. */
+/* A stiff pair, u0' = -1000 (u0 - cos t) and u1' = u0 - u1, each with a tolerance of its own, stepped by Exprb32 from t = 0 to 0.1; then a NaN
+ * answer, a huge word and a wrong length; then the session saved and restored. */
 #include <math.h>
 #include <stdio.h>
 #include <stdlib.h>
@@ -6,9 +7,12 @@
 
 #include "vunchrem.h"
 
+enum { N = 2 };
+
 static vunchrem_session s;
 static vunchrem_reply r;
-static const double none[VUNCHREM_MATRIX];
+static const double absolute[VUNCHREM_VECTOR] = {1e-9, 1e-6}, none[VUNCHREM_MATRIX];
+static unsigned char saved[VUNCHREM_BYTES], again[VUNCHREM_BYTES], old[VUNCHREM_OLD_BYTES];
 
 #define SESSION s.numbers, VUNCHREM_NUMBERS, s.figures, VUNCHREM_FIGURES
 #define REPLY r.words, VUNCHREM_WORDS, r.told, 1
@@ -23,17 +27,18 @@ static void check(const char *what, int holds) {
 static void f(double t, const double *u, double du[16]) {
     memset(du, 0, 16 * sizeof *du);
     du[0] = -1000.0 * (u[0] - cos(t));
+    du[1] = u[0] - u[1];
 }
 
 /* One step: begin with a differenced Jacobian, answer every question, accept. Returns 0, or the refusal's number with the attempt dropped. */
 static int step(double h) {
-    double u[1], du[16];
-    vunchrem_begin(SESSION, h, 0, none, VUNCHREM_MATRIX, u, 1, REPLY);
+    double u[N], du[16];
+    vunchrem_begin(SESSION, h, 0, none, VUNCHREM_MATRIX, u, N, REPLY);
     if (r.words[VUNCHREM_OUTCOME_AT] == VUNCHREM_REFUSED)
         return (int)r.words[VUNCHREM_REFUSAL_AT];
     while (r.words[VUNCHREM_OUTCOME_AT] == VUNCHREM_ASK) {
         f(r.told[0], u, du);
-        vunchrem_supply(SESSION, du, 16, u, 1, REPLY);
+        vunchrem_supply(SESSION, du, 16, u, N, REPLY);
     }
     if (r.words[VUNCHREM_OUTCOME_AT] == VUNCHREM_READY) {
         f(s.figures[VUNCHREM_TIME_AT] + h, u, du);
@@ -47,36 +52,87 @@ static int step(double h) {
     return 0;
 }
 
+/* Whether a session is this one, bit for bit. */
+static int same(const vunchrem_session *a) {
+    return memcmp(a, &s, sizeof s) == 0;
+}
+
+static void saving(void) {
+    static const size_t wrong[] = {0, 1, VUNCHREM_OLD_BYTES - 1, VUNCHREM_OLD_BYTES + 1, VUNCHREM_BYTES - 1, VUNCHREM_BYTES + 1};
+    const size_t tolerances = VUNCHREM_NUMBERS + 8 * VUNCHREM_ABSOLUTE_AT, behind = tolerances + 8;
+    double u[N] = {0.0}, du[16];
+    vunchrem_session kept, end;
+    size_t k;
+
+    /* in mid-attempt, with one answer supplied */
+    vunchrem_begin(SESSION, 0.01, 0, none, VUNCHREM_MATRIX, u, N, REPLY);
+    f(r.told[0], u, du);
+    vunchrem_supply(SESSION, du, 16, u, N, REPLY);
+    kept = s;
+    check("a session is saved", s.numbers[VUNCHREM_COUNT_AT] == 1 && vunchrem_save(&s, saved, VUNCHREM_BYTES) == VUNCHREM_BYTES_DONE);
+    vunchrem_drop(SESSION, REPLY);
+    check("and restored in mid-attempt, bit for bit", vunchrem_restore(&s, saved, VUNCHREM_BYTES) == VUNCHREM_BYTES_DONE && same(&kept));
+    vunchrem_drop(SESSION, REPLY);
+
+    /* bytes of the old layout, which had one tolerance, beside a session that has it for each component */
+    for (k = 0; k < N; k++)
+        s.figures[VUNCHREM_ABSOLUTE_AT + k] = 1e-6;
+    kept = s;
+    vunchrem_save(&s, saved, VUNCHREM_BYTES);
+    memcpy(old, saved, behind);
+    memcpy(old + behind, saved + tolerances + 8 * VUNCHREM_VECTOR, VUNCHREM_OLD_BYTES - behind);
+    check("a step", step(0.01) == 0);
+    end = s;
+    check("bytes of the old layout are brought over", vunchrem_restore(&s, old, VUNCHREM_OLD_BYTES) == VUNCHREM_BYTES_DONE && same(&kept));
+    check("and the run goes on, bit for bit", step(0.01) == 0 && same(&end));
+
+    for (k = 0; k < sizeof wrong / sizeof *wrong; k++)
+        check("bytes of another length are not restored", vunchrem_restore(&s, saved, wrong[k]) == VUNCHREM_BYTES_LENGTH && same(&end));
+    printf("%s\n", vunchrem_bytes_words(VUNCHREM_BYTES_LENGTH));
+    memcpy(again, saved, VUNCHREM_BYTES);
+    check("nor is a session saved into less room", vunchrem_save(&s, again, VUNCHREM_BYTES - 1) == VUNCHREM_BYTES_ROOM);
+    check("and nothing is written", memcmp(again, saved, VUNCHREM_BYTES) == 0);
+
+    s.numbers[VUNCHREM_N_AT] = 257;
+    vunchrem_save(&s, saved, VUNCHREM_BYTES);
+    vunchrem_restore(&s, saved, VUNCHREM_BYTES);
+    vunchrem_drop(SESSION, REPLY);
+    check("an n that no byte holds is refused by 1 after restoring", r.words[VUNCHREM_REFUSAL_AT] == VUNCHREM_SIZE);
+    s = end;
+}
+
 int main(void) {
-    double u[16] = {0.0}, du[16], out[1] = {-1.5}, e[1], one[1] = {1.0}, bad[16] = {0.0};
+    double u[16] = {0.0}, du[16], out[N] = {-1.5, -1.5}, e[1], one[1] = {1.0}, bad[16] = {0.0};
     vunchrem_session kept;
     int k = 0;
 
     f(0.0, u, du);
-    vunchrem_open(VUNCHREM_EXPRB32, 1, 0, 0.0, 1e-6, 1e-9, u, 16, du, 16, none, 16, SESSION, REPLY);
+    vunchrem_open(VUNCHREM_EXPRB32, N, 0, 0.0, 1e-6, absolute, 16, u, 16, du, 16, none, 16, SESSION, REPLY);
     check("open", r.words[VUNCHREM_OUTCOME_AT] == VUNCHREM_RESTING);
     while (k < 10 && step(0.01) == 0)
         k++;
-    printf("u(%g) = %.9f, cos = %.9f\n", s.figures[VUNCHREM_TIME_AT], s.figures[VUNCHREM_STATE_AT], cos(s.figures[VUNCHREM_TIME_AT]));
+    printf("u0(%g) = %.9f, cos = %.9f\n", s.figures[VUNCHREM_TIME_AT], s.figures[VUNCHREM_STATE_AT], cos(s.figures[VUNCHREM_TIME_AT]));
     check("ten steps", k == 10 && fabs(s.figures[VUNCHREM_STATE_AT] - cos(0.1)) < 1e-2);
 
     kept = s;
-    check("step 0 is refused by 5", step(0.0) == VUNCHREM_STEP && memcmp(&kept, &s, sizeof s) == 0);
+    check("step 0 is refused by 5", step(0.0) == VUNCHREM_STEP && same(&kept));
 
-    vunchrem_begin(SESSION, 0.01, 0, none, VUNCHREM_MATRIX, u, 1, REPLY);
+    vunchrem_begin(SESSION, 0.01, 0, none, VUNCHREM_MATRIX, u, N, REPLY);
     kept = s;
     bad[0] = NAN;
-    vunchrem_supply(SESSION, bad, 16, out, 1, REPLY);
+    vunchrem_supply(SESSION, bad, 16, out, N, REPLY);
     check("a NaN answer is refused by 3", r.words[VUNCHREM_OUTCOME_AT] == VUNCHREM_REFUSED && r.words[VUNCHREM_REFUSAL_AT] == VUNCHREM_NOT_FINITE);
-    check("and leaves session and output", memcmp(&kept, &s, sizeof s) == 0 && out[0] == -1.5);
-    bad[0] = 1e300;
-    vunchrem_supply(SESSION, bad, 16, out, 1, REPLY);
-    check("a huge word is refused by 6", r.words[VUNCHREM_REFUSAL_AT] == VUNCHREM_ARITHMETIC && memcmp(&kept, &s, sizeof s) == 0);
+    check("and leaves session and output", same(&kept) && out[0] == -1.5 && out[1] == -1.5);
+    bad[0] = 1e308;
+    vunchrem_supply(SESSION, bad, 16, out, N, REPLY);
+    check("a huge word is refused by 6", r.words[VUNCHREM_REFUSAL_AT] == VUNCHREM_ARITHMETIC && same(&kept));
     vunchrem_drop(SESSION, REPLY);
 
     kept = s;
     check("a wrong length gives 1", vunchrem_drop(s.numbers, 4, s.figures, VUNCHREM_FIGURES, REPLY) == 1);
-    check("and touches nothing", memcmp(&kept, &s, sizeof s) == 0);
+    check("and touches nothing", same(&kept));
+
+    saving();
 
     check("a scheme that no byte holds is refused by 2", (s.numbers[VUNCHREM_SCHEME_AT] = 256 + 14, vunchrem_drop(SESSION, REPLY) == 0) &&
           r.words[VUNCHREM_REFUSAL_AT] == VUNCHREM_SCHEME && s.numbers[VUNCHREM_SCHEME_AT] == 256 + 14);

@@ -1,6 +1,6 @@
 /* The stepping core for programs in C. Link target/staticlib/liblibrary.a.
  *
- * A session crosses as two arrays that the caller holds: 5 numbers and 628 figures. Every function tests every length itself and requires
+ * A session crosses as two arrays that the caller holds: 5 numbers and 643 figures. Every function tests every length itself and requires
  * nothing of the numbers. A slice is a pointer and a length; the pointer is not NULL, and no two slices of one call overlap.
  *
  * Each function returns 0 where the call was made, and 1 where a length is another than its own; then nothing is touched. What the call tells
@@ -11,6 +11,7 @@
 
 #include <stddef.h>
 #include <stdint.h>
+#include <string.h>
 
 #ifdef __cplusplus
 extern "C" {
@@ -60,12 +61,19 @@ enum vunchrem_refusal {
 #define VUNCHREM_STEP_AT (VUNCHREM_TIME_AT + 1)
 #define VUNCHREM_RELATIVE_AT (VUNCHREM_STEP_AT + 1)
 #define VUNCHREM_ABSOLUTE_AT (VUNCHREM_RELATIVE_AT + 1)
-#define VUNCHREM_STATE_AT (VUNCHREM_ABSOLUTE_AT + 1)
+#define VUNCHREM_STATE_AT (VUNCHREM_ABSOLUTE_AT + VUNCHREM_VECTOR)
 #define VUNCHREM_DERIVATIVE_AT (VUNCHREM_STATE_AT + VUNCHREM_VECTOR)
 #define VUNCHREM_PREVIOUS_AT (VUNCHREM_DERIVATIVE_AT + VUNCHREM_VECTOR)
 #define VUNCHREM_JACOBIAN_AT (VUNCHREM_PREVIOUS_AT + VUNCHREM_VECTOR)
 #define VUNCHREM_ANSWERS_AT (VUNCHREM_JACOBIAN_AT + VUNCHREM_MATRIX)
 #define VUNCHREM_FIGURES (VUNCHREM_ANSWERS_AT + VUNCHREM_ANSWERS)
+
+/* How many there were under the old layout, which had one absolute tolerance. */
+#define VUNCHREM_OLD_FIGURES (VUNCHREM_FIGURES - VUNCHREM_VECTOR + 1)
+
+/* Bytes of a saved session, under either layout: one for each number, eight for each figure. */
+#define VUNCHREM_BYTES (VUNCHREM_NUMBERS + 8 * VUNCHREM_FIGURES)
+#define VUNCHREM_OLD_BYTES (VUNCHREM_NUMBERS + 8 * VUNCHREM_OLD_FIGURES)
 
 /* Where each word of a reply stands, and how many there are. */
 #define VUNCHREM_OUTCOME_AT 0
@@ -75,8 +83,8 @@ enum vunchrem_refusal {
 #define VUNCHREM_WORDS (VUNCHREM_JACOBIANS_AT + 1)
 
 /* A session: scheme, n, history (0 none, 1 held), attempt (0 none, 1 Jacobian supplied, 2 differenced), count of answers; and time, step,
- * relative and absolute tolerance, state 16, derivative 16, history 16, Jacobian 256, answers 320. Entries past n and places not in use are
- * +0.0. A scheme above 255 counts as 255, a history above 1 as held, an attempt above 2 as differenced. */
+ * relative tolerance, absolute tolerances 16, state 16, derivative 16, history 16, Jacobian 256, answers 320. Entries past n and places not in
+ * use are +0.0. A scheme above 255 counts as 255, a history above 1 as held, an attempt above 2 as differenced. */
 typedef struct {
     uint64_t numbers[VUNCHREM_NUMBERS];
     double figures[VUNCHREM_FIGURES];
@@ -89,11 +97,12 @@ typedef struct {
     double told[1];
 } vunchrem_reply;
 
-/* Opens a run. state, derivative and previous have 16 places; held is 0 where there is no history. */
-uint32_t vunchrem_open(uint64_t scheme, uint64_t n, uint64_t held, double time, double relative, double absolute,
-                       const double *state, size_t state_len, const double *derivative, size_t derivative_len,
-                       const double *previous, size_t previous_len, uint64_t *numbers, size_t numbers_len,
-                       double *figures, size_t figures_len, uint64_t *words, size_t words_len, double *told, size_t told_len);
+/* Opens a run. absolute, each component's own tolerance, state, derivative and previous have 16 places; held is 0 where there is no history. */
+uint32_t vunchrem_open(uint64_t scheme, uint64_t n, uint64_t held, double time, double relative,
+                       const double *absolute, size_t absolute_len, const double *state, size_t state_len,
+                       const double *derivative, size_t derivative_len, const double *previous, size_t previous_len,
+                       uint64_t *numbers, size_t numbers_len, double *figures, size_t figures_len,
+                       uint64_t *words, size_t words_len, double *told, size_t told_len);
 
 /* Begins an attempt. wish 0 differences the Jacobian, whose 256 places are then +0.0; otherwise it is given, n * n entries row by row. The first
  * question, or the candidate, fills out, which has n places. */
@@ -128,10 +137,84 @@ uint32_t vunchrem_phi_action(uint64_t n, uint64_t order, double scale_a, const d
                              const double *input, size_t input_len, double *out, size_t out_len,
                              uint64_t *words, size_t words_len, double *told, size_t told_len);
 
-/* The scaled error norm of n entries; error, state and candidate have 16 places. */
-uint32_t vunchrem_error_norm(uint64_t n, double relative, double absolute, const double *error, size_t error_len,
+/* The scaled error norm of n entries; absolute, error, state and candidate have 16 places. */
+uint32_t vunchrem_error_norm(uint64_t n, double relative, const double *absolute, size_t absolute_len, const double *error, size_t error_len,
                              const double *state, size_t state_len, const double *candidate, size_t candidate_len,
                              uint64_t *words, size_t words_len, double *told, size_t told_len);
+
+/* Brings over a session of the old layout: its figures, old, with the tolerance in each of the first n places (in all, if n is above 16). The
+ * numbers stay as they are. Nothing is judged: the next call judges the session. */
+uint32_t vunchrem_bring_over(const uint64_t *numbers, size_t numbers_len, const double *old, size_t old_len, double *figures, size_t figures_len);
+
+/* What saving and restoring come to; vunchrem_bytes_words has it in words. */
+enum vunchrem_bytes_code { VUNCHREM_BYTES_DONE, VUNCHREM_BYTES_ROOM, VUNCHREM_BYTES_LENGTH };
+
+static inline const char *vunchrem_bytes_words(uint32_t code) {
+    switch (code) {
+    case VUNCHREM_BYTES_DONE: return "done";
+    case VUNCHREM_BYTES_ROOM: return "the room for a saved session is not of VUNCHREM_BYTES bytes";
+    case VUNCHREM_BYTES_LENGTH: return "these are no bytes of a saved session: neither VUNCHREM_BYTES nor VUNCHREM_OLD_BYTES of them";
+    default: return "no such code";
+    }
+}
+
+/* A double as eight bytes, the lowest first; every NaN as 0x7ff8000000000000. */
+static inline void vunchrem_put_double(unsigned char *bytes, double x) {
+    uint64_t bits;
+    size_t i;
+    memcpy(&bits, &x, sizeof bits);
+    if ((bits & UINT64_C(0x7fffffffffffffff)) > UINT64_C(0x7ff0000000000000))
+        bits = UINT64_C(0x7ff8000000000000);
+    for (i = 0; i < 8; i++)
+        bytes[i] = (unsigned char)(bits >> 8 * i & 0xff);
+}
+
+/* Doubles from eight bytes each. */
+static inline void vunchrem_get_doubles(double *x, const unsigned char *bytes, size_t count) {
+    size_t i, k;
+    for (k = 0; k < count; k++) {
+        uint64_t bits = 0;
+        for (i = 0; i < 8; i++)
+            bits |= (uint64_t)bytes[8 * k + i] << 8 * i;
+        memcpy(&x[k], &bits, sizeof bits);
+    }
+}
+
+/* Saves a session into VUNCHREM_BYTES bytes, the same on every machine: the image that the program console shows. Its attempt and the answers so
+ * far are in them, the open question is not. A number above what its byte holds counts as the most that it holds: 255, of a history 1, of an
+ * attempt 2; so an n of 257, which is refused, does not turn into 1. Where length is another, nothing is written. */
+static inline uint32_t vunchrem_save(const vunchrem_session *session, unsigned char *bytes, size_t length) {
+    static const unsigned char most[VUNCHREM_NUMBERS] = {255, 255, 1, 2, 255};
+    size_t k;
+    if (length != VUNCHREM_BYTES)
+        return VUNCHREM_BYTES_ROOM;
+    for (k = 0; k < VUNCHREM_NUMBERS; k++)
+        bytes[k] = session->numbers[k] < most[k] ? (unsigned char)session->numbers[k] : most[k];
+    for (k = 0; k < VUNCHREM_FIGURES; k++)
+        vunchrem_put_double(bytes + VUNCHREM_NUMBERS + 8 * k, session->figures[k]);
+    return VUNCHREM_BYTES_DONE;
+}
+
+/* Brings back a saved session. Bytes of the old layout are told by their length and brought over, by way of 5 KB of stack; bytes of any other length
+ * leave the session as it was. Nothing else is judged: the next call judges the session. */
+static inline uint32_t vunchrem_restore(vunchrem_session *session, const unsigned char *bytes, size_t length) {
+    uint64_t numbers[VUNCHREM_NUMBERS];
+    size_t k;
+    if (length != VUNCHREM_BYTES && length != VUNCHREM_OLD_BYTES)
+        return VUNCHREM_BYTES_LENGTH;
+    for (k = 0; k < VUNCHREM_NUMBERS; k++)
+        numbers[k] = bytes[k];
+    if (length == VUNCHREM_BYTES) {
+        vunchrem_get_doubles(session->figures, bytes + VUNCHREM_NUMBERS, VUNCHREM_FIGURES);
+    } else {
+        double old[VUNCHREM_OLD_FIGURES];
+        vunchrem_get_doubles(old, bytes + VUNCHREM_NUMBERS, VUNCHREM_OLD_FIGURES);
+        if (vunchrem_bring_over(numbers, VUNCHREM_NUMBERS, old, VUNCHREM_OLD_FIGURES, session->figures, VUNCHREM_FIGURES) != 0)
+            return VUNCHREM_BYTES_LENGTH;
+    }
+    memcpy(session->numbers, numbers, sizeof numbers);
+    return VUNCHREM_BYTES_DONE;
+}
 
 #ifdef __cplusplus
 }
