@@ -1,4 +1,4 @@
-//! What the crate adds to the core: the driver, and that a refusal leaves the session alone.
+//! What the crate adds to the core: the driver, one tolerance or one for each component, saving; and that a refusal leaves the session alone.
 use super::*;
 
 // The session's numbers and the bits of its figures.
@@ -24,9 +24,13 @@ fn the_layout_is_that_of_the_core() {
 const PAIR: [f64; 4] = [-1000.0, 0.0, 1.0, -1.0];
 
 fn open(scheme: Scheme) -> Session {
+    open_by(scheme, 1e-9)
+}
+
+fn open_by<'a>(scheme: Scheme, absolute: impl Into<Tolerance<'a>>) -> Session {
     let mut f0 = [0.0; 2];
     pair(0.0, &[1.0, 0.0], &mut f0);
-    Session::open(scheme, 0.0, &[1.0, 0.0], &f0, 1e-6, 1e-9).unwrap()
+    Session::open(scheme, 0.0, &[1.0, 0.0], &f0, 1e-6, absolute).unwrap()
 }
 
 // u1 of the pair at t = 1, u0 = cos t but for some thousandths: (cos 1 + sin 1 - exp(-1)) / 2.
@@ -226,4 +230,254 @@ fn schemes_have_their_numbers_and_orders() {
         assert_eq!(scheme as usize, k);
         assert_eq!(scheme.order(), orders[k]);
     }
+}
+
+#[test]
+fn one_tolerance_is_the_same_for_each_component() {
+    let same = [1e-9; 2];
+    for scheme in Scheme::ALL {
+        let mut one = open_by(scheme, 1e-9);
+        assert_eq!(one.absolute(), same);
+        assert_eq!(one.relative(), 1e-6);
+        let done = one.step(0.01, pair).unwrap();
+        for mut each in [open_by(scheme, &same), open_by(scheme, &same[..]), open_by(scheme, &same.to_vec())] {
+            assert_eq!(each.step(0.01, pair).unwrap(), done);
+            assert_eq!(bits(&each), bits(&one));
+            assert_eq!(each.first_step(f64::INFINITY), one.first_step(f64::INFINITY));
+        }
+    }
+    let norm = |absolute: Tolerance| error_norm(1e-3, absolute, &[1.0, -0.1, 0.3], &[1.0, 2.0, 3.0], &[0.0; 3]);
+    assert_eq!(norm(1e-3.into()), norm((&[1e-3; 3]).into()));
+}
+
+#[test]
+fn each_component_has_its_own_tolerance() {
+    let (forth, back) = ([1e-9, 1e-6], [1e-6, 1e-9]);
+    assert_eq!(open_by(Scheme::Exp4, &forth).absolute(), forth);
+    for scheme in [Scheme::Exprb32, Scheme::Exprb43] {
+        let norm = |absolute: Tolerance| open_by(scheme, absolute).step(0.01, pair).unwrap().error_norm;
+        let norms = [norm(1e-9.into()), norm((&forth).into()), norm((&back).into()), norm(1e-6.into())];
+        assert!(norms.iter().enumerate().all(|(k, x)| !norms[..k].contains(x)), "{scheme:?}: {norms:?}");
+    }
+    let norm = error_norm(1.0, &[1.0, 4.0], &[3.0, 8.0], &[0.0; 2], &[0.0; 2]);
+    assert_eq!(norm, Ok(((9.0 + 4.0) / 2f64).sqrt()));
+}
+
+#[test]
+fn tolerances_are_refused() {
+    let u = [1.0, 2.0, 3.0];
+    let refused = |absolute: &[f64]| {
+        let open = Session::open(Scheme::Etd2, 0.0, &u, &u, 1.0, absolute).map(drop);
+        let with_history = Session::open_with_history(Scheme::Etd2, 0.0, &u, &u, 1.0, absolute, &u).map(drop);
+        let norm = error_norm(1.0, absolute, &u, &u, &u).map(drop);
+        assert_eq!((open, with_history), (norm, norm));
+        norm
+    };
+    assert_eq!(refused(&[1.0; 3]), Ok(()));
+    for n in [0, 1, 2, 4, 16, 17] {
+        assert_eq!(refused(&vec![1.0; n]), Err(Refusal::Size), "{n} of them");
+        assert_eq!(refused(&vec![f64::NAN; n]), Err(Refusal::Size), "{n} of them");
+    }
+    for bad in [0.0, -0.0, -1.0, f64::NAN, f64::INFINITY] {
+        for at in 0..u.len() {
+            let mut absolute = [1.0; 3];
+            absolute[at] = bad;
+            assert_eq!(refused(&absolute), Err(Refusal::Tolerance), "{bad} at {at}");
+        }
+    }
+    let one = |u: &[f64], absolute: f64| Session::open(Scheme::Exp4, 0.0, u, u, 1.0, absolute).map(drop);
+    assert_eq!(one(&u, f64::NAN), Err(Refusal::Tolerance));
+    assert_eq!(one(&[], 1.0), Err(Refusal::Size));
+    assert_eq!(one(&[1.0; 16], 1.0), Ok(()));
+    assert_eq!(one(&[1.0; 17], 1.0), Err(Refusal::Size));
+}
+
+// A step of the pair, call by call, with something between the calls; what each call but the last told.
+fn calls(s: &mut Session, jacobian: Option<&[f64]>, between: fn(&mut Session)) -> Vec<Progress> {
+    between(s);
+    let mut told = vec![s.begin(0.01, jacobian).unwrap()];
+    loop {
+        between(s);
+        let (time, state, asked) = match told.last().unwrap() {
+            Progress::Ask { time, state } => (*time, state, true),
+            Progress::Ready { candidate, .. } => (s.time() + 0.01, candidate, false),
+        };
+        let mut du = [0.0; 2];
+        pair(time, state, &mut du);
+        if !asked {
+            s.accept(&du).unwrap();
+            return told;
+        }
+        told.push(s.supply(&du).unwrap());
+    }
+}
+
+fn restored(s: &Session) -> Session {
+    Session::restore(&s.save()).unwrap()
+}
+
+// The bytes of a session as the old layout had them: the first tolerance for all.
+fn old(new: &[u8]) -> Vec<u8> {
+    [&new[..37], &new[157..]].concat()
+}
+
+#[test]
+fn a_saved_session_goes_on_bit_for_bit() {
+    for scheme in Scheme::ALL {
+        for jacobian in [None, Some(&PAIR[..])] {
+            let (mut kept, mut saved) = (open_by(scheme, &[1e-9, 1e-6]), open_by(scheme, &[1e-9, 1e-6]));
+            for _ in 0..2 {
+                let told = calls(&mut kept, jacobian, |_| {});
+                assert_eq!(calls(&mut saved, jacobian, |s| *s = restored(s)), told);
+                assert_eq!(bits(&saved), bits(&kept));
+            }
+        }
+    }
+}
+
+#[test]
+fn old_bytes_are_brought_over() {
+    for scheme in Scheme::ALL {
+        let (mut kept, mut saved) = (open_by(scheme, 1e-6), open_by(scheme, 1e-6));
+        for _ in 0..2 {
+            let told = calls(&mut kept, None, |_| {});
+            assert_eq!(calls(&mut saved, None, |s| *s = Session::restore(&old(&s.save())).unwrap()), told);
+            assert_eq!(bits(&saved), bits(&kept));
+        }
+    }
+    for n in 1..=16 {
+        let u: Vec<f64> = (1..=n).map(f64::from).collect();
+        let s = Session::open_with_history(Scheme::Etd2, 1.0, &u, &u, 1e-6, 1e-9, &u).unwrap();
+        assert_eq!(bits(&Session::restore(&old(&s.save())).unwrap()), bits(&s), "n is {n}");
+    }
+    // of a forged n too: none of the places, or all of them
+    for (n, tolerances) in [(0, [0.0; 16]), (17, [1e-6; 16]), (255, [1e-6; 16])] {
+        let mut bytes = old(&open_by(Scheme::Exp4, 1e-6).save());
+        bytes[1] = n;
+        let mut s = Session::restore(&bytes).unwrap();
+        assert_eq!(s.figures[layout::ABSOLUTE_AT..layout::STATE_AT], tolerances);
+        assert_eq!(s.drop_attempt(), Err(Refusal::Size));
+    }
+}
+
+#[test]
+fn bytes_of_another_length_are_an_error_in_words() {
+    let good = open(Scheme::Exp4).save();
+    for length in [0, 1, 5, 628, 5028, 5030, 5148, 5150] {
+        let bytes: Vec<u8> = good.iter().copied().cycle().take(length).collect();
+        let error = Session::restore(&bytes).map(drop).unwrap_err();
+        assert_eq!(error, RestoreError::Length(length));
+        let words = error.to_string();
+        assert!(words.contains(" 5149 bytes") && words.contains(" 5029 ") && words.ends_with(&format!(" {length}")), "{words}");
+    }
+}
+
+#[test]
+fn saved_bytes_are_the_image_of_the_console() {
+    let u = |x: f64| [x, x + 0.5, x + 0.25];
+    let mut s = Session::open_with_history(Scheme::Etd2, 0.1, &u(1.0), &u(2.0), 1e-6, &[1e-3, 1e-2, 1e-4], &u(3.0)).unwrap();
+    s.begin(-0.5, None).unwrap();
+    s.supply(&u(4.0)).unwrap();
+    s.supply(&u(5.0)).unwrap();
+    let bytes = s.save();
+    assert_eq!(bytes.len(), 5149);
+    assert_eq!(bytes[..5], [13, 3, 1, 2, 2]);
+    let mut at = 5;
+    let mut next = |values: &[f64], places: usize| {
+        for k in 0..places {
+            assert_eq!(bytes[at..at + 8], values.get(k).unwrap_or(&0.0).to_le_bytes(), "at {at}");
+            at += 8;
+        }
+    };
+    next(&[0.1, -0.5, 1e-6], 3);
+    next(&[1e-3, 1e-2, 1e-4], 16);
+    next(&u(1.0), 16);
+    next(&u(2.0), 16);
+    next(&u(3.0), 16);
+    next(&[], 256);
+    next(&u(4.0), 16);
+    next(&u(5.0), 16);
+    next(&[], 18 * 16);
+    assert_eq!(at, 5149);
+}
+
+#[test]
+fn every_nan_is_saved_as_one() {
+    let mut bytes = open(Scheme::Exp4).save();
+    for pattern in [0x7ff0_0000_0000_0001u64, 0xfff8_0000_0000_0000, 0x7fff_ffff_ffff_ffff, 0x7ff8_0000_0000_0000] {
+        bytes[157..165].copy_from_slice(&pattern.to_le_bytes());
+        let mut s = Session::restore(&bytes).unwrap();
+        assert!(s.state()[0].is_nan());
+        assert_eq!(s.save()[157..165], 0x7ff8_0000_0000_0000u64.to_le_bytes());
+        assert_eq!(s.drop_attempt(), Err(Refusal::NotFinite));
+    }
+    bytes[157..165].copy_from_slice(&f64::NEG_INFINITY.to_le_bytes());
+    assert_eq!(Session::restore(&bytes).unwrap().save(), bytes);
+}
+
+// Every call on a session refuses it by this number, with vectors of every length, and leaves it alone.
+fn refused_by_all(s: &mut Session, refusal: Refusal) {
+    let kept = bits(s);
+    for length in [0, 1, 2, 16, 17, 256, 289] {
+        let x = vec![0.0; length];
+        assert_eq!(s.begin(0.01, Some(&x)), Err(refusal));
+        assert_eq!(s.supply(&x), Err(refusal));
+        assert_eq!(s.accept(&x), Err(refusal));
+        assert_eq!(s.step_with_jacobian(0.01, &x, pair), Err(refusal));
+    }
+    assert_eq!(s.begin(0.01, None), Err(refusal));
+    assert_eq!(s.step(0.01, pair), Err(refusal));
+    assert_eq!(s.first_step(1.0), Err(refusal));
+    assert_eq!(s.drop_attempt(), Err(refusal));
+    for shown in [s.state(), s.derivative(), s.absolute()] {
+        assert_eq!(shown.len(), (s.numbers[layout::N_AT] as usize).min(16));
+    }
+    assert_eq!(bits(s), kept);
+    assert_eq!(bits(&restored(s)), kept);
+}
+
+#[test]
+fn forged_bytes_are_refused_by_the_next_call() {
+    let mut s = open(Scheme::Exprb43);
+    let rest = s.save();
+    s.begin(0.01, None).unwrap();
+    s.supply(&[0.0; 2]).unwrap();
+    let asking = s.save();
+    let forged = |bytes: &[u8], at: usize, with: &[u8]| {
+        let mut bytes = bytes.to_vec();
+        bytes[at..at + with.len()].copy_from_slice(with);
+        Session::restore(&bytes).unwrap()
+    };
+    let one = 1f64.to_le_bytes();
+    for bytes in [&rest, &asking] {
+        for n in [0, 1, 17, 255] {
+            refused_by_all(&mut forged(bytes, 1, &[n]), Refusal::Size);
+        }
+        // behind the tolerances, the state, the derivative, and in the history that is not held
+        for at in [45, 157 + 16, 285 + 16, 413] {
+            refused_by_all(&mut forged(bytes, at, &one), Refusal::Size);
+        }
+        for (at, number) in [(0, 16), (0, 255), (2, 1), (4, 255)] {
+            refused_by_all(&mut forged(bytes, at, &[number]), Refusal::Scheme);
+        }
+        for (at, x, refusal) in [
+            (21, -1.0, Refusal::Tolerance),
+            (29, 0.0, Refusal::Tolerance),
+            (37, f64::NAN, Refusal::Tolerance),
+            (5, f64::NAN, Refusal::NotFinite),
+            (157, f64::INFINITY, Refusal::NotFinite),
+        ] {
+            let mut s = forged(bytes, at, &x.to_le_bytes());
+            assert_eq!((s.drop_attempt(), s.first_step(1.0)), (Err(refusal), Err(refusal)));
+        }
+    }
+    assert_eq!(forged(&asking, 13, &0f64.to_le_bytes()).drop_attempt(), Err(Refusal::Step));
+    // a length that does not fit comes behind what the session is refused by, and before the arithmetic
+    let mut s = forged(&rest, 29, &0f64.to_le_bytes());
+    assert_eq!((s.accept(&[]), s.begin(0.01, Some(&[]))), (Err(Refusal::Phase), Err(Refusal::Tolerance)));
+    assert_eq!(forged(&asking, 29, &0f64.to_le_bytes()).supply(&[]), Err(Refusal::Tolerance));
+    // an attempt above 2 counts as 2
+    let mut s = forged(&asking, 3, &[7]);
+    assert_eq!(s.save(), asking);
+    assert!(s.supply(&[0.0; 2]).is_ok());
 }
