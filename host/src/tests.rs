@@ -130,6 +130,14 @@ fn refusals_leave_the_session_bit_for_bit() {
 }
 
 #[test]
+fn a_length_is_tested_before_the_arithmetic() {
+    let mut s = Session::open(Scheme::NorsettEuler, 1e308, &[1.0], &[0.0], 1.0, 1.0).unwrap();
+    s.begin(1e308, Some(&[0.0])).unwrap();
+    assert_eq!(s.accept(&[0.0]), Err(Refusal::Arithmetic));
+    assert_eq!(s.accept(&[]), Err(Refusal::Size));
+}
+
+#[test]
 fn a_refused_step_drops_its_attempt() {
     let mut s = open(Scheme::Exp4);
     let kept = bits(&s);
@@ -412,7 +420,7 @@ fn every_nan_is_saved_as_one() {
         assert_eq!(s.drop_attempt(), Err(Refusal::NotFinite));
     }
     bytes[157..165].copy_from_slice(&f64::NEG_INFINITY.to_le_bytes());
-    assert_eq!(Session::restore(&bytes).unwrap().save(), bytes);
+    assert!(Session::restore(&bytes).unwrap().save() == bytes);
 }
 
 // Every call on a session refuses it by this number, with vectors of every length, and leaves it alone.
@@ -472,12 +480,12 @@ fn forged_bytes_are_refused_by_the_next_call() {
         }
     }
     assert_eq!(forged(&asking, 13, &0f64.to_le_bytes()).drop_attempt(), Err(Refusal::Step));
-    // a length that does not fit comes behind what the session is refused by, and before the arithmetic
+    // the session is tested before a length that does not fit, the phase before its tolerances
     let mut s = forged(&rest, 29, &0f64.to_le_bytes());
     assert_eq!((s.accept(&[]), s.begin(0.01, Some(&[]))), (Err(Refusal::Phase), Err(Refusal::Tolerance)));
     assert_eq!(forged(&asking, 29, &0f64.to_le_bytes()).supply(&[]), Err(Refusal::Tolerance));
     // an attempt above 2 counts as 2
     let mut s = forged(&asking, 3, &[7]);
-    assert_eq!(s.save(), asking);
+    assert!(s.save() == asking);
     assert!(s.supply(&[0.0; 2]).is_ok());
 }
