@@ -9,10 +9,11 @@
 
 #include "vunchrem.h"
 
-enum call { OPEN, FIRST_STEP, BEGIN, SUPPLY, ACCEPT, DROP, EXPONENTIAL, PHI_ACTION, ERROR_NORM, NOTHING };
+enum call { OPEN, FIRST_STEP, BEGIN, SUPPLY, ACCEPT, DROP, EXPONENTIAL, PHI_ACTION, ERROR_NORM, BRING_OVER, NOTHING };
 enum { STACK = 1 << 20, PAINT = 0xa5, SESSION_CALLS = EXPONENTIAL, CALLS = NOTHING, LARGEST = 20 };
 
-static const char *const calls[CALLS] = {"open", "first step", "begin", "supply", "accept", "drop", "exponential", "phi action", "error norm"};
+static const char *const calls[CALLS] = {"open", "first step", "begin", "supply", "accept", "drop", "exponential", "phi action", "error norm",
+                                         "bring over"};
 static const char *const schemes[] = {
     "LawsonEuler", "NorsettEuler", "Etdrk2", "Etdrk3", "Etdrk4", "HochOst4", "Exp4", "Epirk4s3A",
     "Epirk4s3B", "Epirk5s3", "Exprb53s3", "Epirk5P1", "Epirk5P2", "Etd2", "Exprb32", "Exprb43"};
@@ -22,7 +23,7 @@ static const double step = 0.01, tolerance = 1e-6;
 static vunchrem_session s;
 static vunchrem_reply r;
 static uint64_t scheme, n, wish, order;
-static double u[VUNCHREM_VECTOR], du[VUNCHREM_VECTOR], none[VUNCHREM_VECTOR];
+static double absolute[VUNCHREM_VECTOR], u[VUNCHREM_VECTOR], du[VUNCHREM_VECTOR], none[VUNCHREM_VECTOR], old[VUNCHREM_OLD_FIGURES];
 static double jacobian[VUNCHREM_MATRIX], matrix[LARGEST * LARGEST], out[LARGEST * LARGEST];
 static enum call next;
 
@@ -33,7 +34,7 @@ static enum call next;
 static void make(void) {
     enum { V = VUNCHREM_VECTOR };
     switch (next) {
-    case OPEN: vunchrem_open(scheme, n, 0, 0.0, tolerance, tolerance, u, V, du, V, none, V, SESSION, REPLY); break;
+    case OPEN: vunchrem_open(scheme, n, 0, 0.0, tolerance, absolute, V, u, V, du, V, none, V, SESSION, REPLY); break;
     case FIRST_STEP: vunchrem_first_step(SESSION, INFINITY, REPLY); break;
     case BEGIN: vunchrem_begin(SESSION, step, wish, jacobian, VUNCHREM_MATRIX, out, n, REPLY); break;
     case SUPPLY: vunchrem_supply(SESSION, du, V, out, n, REPLY); break;
@@ -41,7 +42,11 @@ static void make(void) {
     case DROP: vunchrem_drop(SESSION, REPLY); break;
     case EXPONENTIAL: vunchrem_exponential(n, matrix, n * n, out, n * n, REPLY); break;
     case PHI_ACTION: vunchrem_phi_action(n, order, step, matrix, n * n, u, n, out, n, REPLY); break;
-    case ERROR_NORM: vunchrem_error_norm(n, tolerance, tolerance, none, V, u, V, u, V, REPLY); break;
+    case ERROR_NORM: vunchrem_error_norm(n, tolerance, absolute, V, none, V, u, V, u, V, REPLY); break;
+    case BRING_OVER: /* it has no reply */
+        if (vunchrem_bring_over(s.numbers, VUNCHREM_NUMBERS, old, VUNCHREM_OLD_FIGURES, s.figures, VUNCHREM_FIGURES) == 0)
+            r.words[VUNCHREM_OUTCOME_AT] = VUNCHREM_RESTING;
+        break;
     case NOTHING: break;
     }
 }
@@ -102,12 +107,15 @@ static void linear(double *m, uint64_t size) {
             m[row * size + column] = row == column ? -100.0 : row == column + 1 ? 50.0 : row + 1 == column ? 25.0 : 0.0;
 }
 
-/* A state of n entries. */
+/* A state of n entries, and a tolerance for each. */
 static void start(void) {
     uint64_t i;
     memset(u, 0, sizeof u);
-    for (i = 0; i < n; i++)
+    memset(absolute, 0, sizeof absolute);
+    for (i = 0; i < n; i++) {
         u[i] = 1.0 + 0.1 * (double)i;
+        absolute[i] = tolerance;
+    }
 }
 
 /* Begins an attempt and answers every question. */
@@ -193,6 +201,11 @@ int main(void) {
         n = sizes[i];
         sprintf(place, "n = %d", (int)n);
         bare(ERROR_NORM);
+    }
+    for (i = 0; i < 2; i++) {
+        n = s.numbers[VUNCHREM_N_AT] = sizes[i];
+        sprintf(place, "n = %d", (int)n);
+        bare(BRING_OVER);
     }
 
     printf("\nThe deepest of each call:\n");
