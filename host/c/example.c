@@ -97,7 +97,7 @@ static void saving(void) {
     vunchrem_save(&s, saved, VUNCHREM_BYTES);
     vunchrem_restore(&s, saved, VUNCHREM_BYTES);
     vunchrem_drop(SESSION, REPLY);
-    check("an n that no byte holds is refused by 1 after restoring", r.words[VUNCHREM_REFUSAL_AT] == VUNCHREM_SIZE);
+    check("an n that no byte holds is saved as 255, and refused by 1", saved[VUNCHREM_N_AT] == 255 && r.words[VUNCHREM_REFUSAL_AT] == VUNCHREM_SIZE);
     s = end;
 }
 
