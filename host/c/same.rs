@@ -20,7 +20,8 @@ fn by_c(bytes: &[u8]) -> (u32, Vec<u8>) {
 fn a_session_has_the_same_bytes() {
     for scheme in Scheme::ALL {
         let mut s = Session::open(scheme, 0.0, &[1.0, 2.0], &[-1.0, 1.0], 1e-6, &[1e-9, 1e-3]).unwrap();
-        s.step(0.1, |_, u, du| du.copy_from_slice(&[-u[0], u[0] - u[1]])).unwrap();
+        s.step(0.1, |_, u, du| du.copy_from_slice(&[-u[0], u[0] - u[1]]))
+            .unwrap();
         assert!(by_c(&s.save()) == (0, s.save()), "{scheme:?}");
         s.begin(0.1, None).unwrap();
         s.supply(&[0.5, 0.25]).unwrap();
@@ -42,7 +43,10 @@ fn forged_bytes_are_read_alike() {
             // a NaN, of a sign and with bits of its own
             bytes[35] = 0xf1 | random();
             bytes[36] = 0x7f | random();
-            assert!(by_c(&bytes) == (0, Session::restore(&bytes).unwrap().save()), "n is {n}, of {length} bytes");
+            assert!(
+                by_c(&bytes) == (0, Session::restore(&bytes).unwrap().save()),
+                "n is {n}, of {length} bytes"
+            );
         }
     }
 }

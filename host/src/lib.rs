@@ -354,7 +354,15 @@ impl Session {
         absolute: impl Into<Tolerance<'a>>,
         history: &[f64],
     ) -> Result<Session, Refusal> {
-        Session::opened(scheme, time, state, derivative, relative, absolute.into(), Some(history))
+        Session::opened(
+            scheme,
+            time,
+            state,
+            derivative,
+            relative,
+            absolute.into(),
+            Some(history),
+        )
     }
 
     fn opened(
@@ -370,9 +378,12 @@ impl Session {
         if derivative.len() != n || history.is_some_and(|h| h.len() != n) {
             return Err(Refusal::Size);
         }
-        let (Some(a), Some(u), Some(f0), Some(g)) =
-            (absolute.places(n), padded(state), padded(derivative), padded(history.unwrap_or(&[])))
-        else {
+        let (Some(a), Some(u), Some(f0), Some(g)) = (
+            absolute.places(n),
+            padded(state),
+            padded(derivative),
+            padded(history.unwrap_or(&[])),
+        ) else {
             return Err(Refusal::Size);
         };
         let mut s = Session::blank();
@@ -758,9 +769,12 @@ pub fn error_norm<'a>(
     if state.len() != n || candidate.len() != n {
         return Err(Refusal::Size);
     }
-    let (Some(a), Some(e), Some(u), Some(v)) =
-        (absolute.into().places(n), padded(error), padded(state), padded(candidate))
-    else {
+    let (Some(a), Some(e), Some(u), Some(v)) = (
+        absolute.into().places(n),
+        padded(error),
+        padded(state),
+        padded(candidate),
+    ) else {
         return Err(Refusal::Size);
     };
     let mut t = Told::new();

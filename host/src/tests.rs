@@ -248,7 +248,11 @@ fn one_tolerance_is_the_same_for_each_component() {
         assert_eq!(one.absolute(), same);
         assert_eq!(one.relative(), 1e-6);
         let done = one.step(0.01, pair).unwrap();
-        for mut each in [open_by(scheme, &same), open_by(scheme, &same[..]), open_by(scheme, &same.to_vec())] {
+        for mut each in [
+            open_by(scheme, &same),
+            open_by(scheme, &same[..]),
+            open_by(scheme, &same.to_vec()),
+        ] {
             assert_eq!(each.step(0.01, pair).unwrap(), done);
             assert_eq!(bits(&each), bits(&one));
             assert_eq!(each.first_step(f64::INFINITY), one.first_step(f64::INFINITY));
@@ -264,8 +268,16 @@ fn each_component_has_its_own_tolerance() {
     assert_eq!(open_by(Scheme::Exp4, &forth).absolute(), forth);
     for scheme in [Scheme::Exprb32, Scheme::Exprb43] {
         let norm = |absolute: Tolerance| open_by(scheme, absolute).step(0.01, pair).unwrap().error_norm;
-        let norms = [norm(1e-9.into()), norm((&forth).into()), norm((&back).into()), norm(1e-6.into())];
-        assert!(norms.iter().enumerate().all(|(k, x)| !norms[..k].contains(x)), "{scheme:?}: {norms:?}");
+        let norms = [
+            norm(1e-9.into()),
+            norm((&forth).into()),
+            norm((&back).into()),
+            norm(1e-6.into()),
+        ];
+        assert!(
+            norms.iter().enumerate().all(|(k, x)| !norms[..k].contains(x)),
+            "{scheme:?}: {norms:?}"
+        );
     }
     let norm = error_norm(1.0, &[1.0, 4.0], &[3.0, 8.0], &[0.0; 2], &[0.0; 2]);
     assert_eq!(norm, Ok(((9.0 + 4.0) / 2f64).sqrt()));
@@ -349,7 +361,10 @@ fn old_bytes_are_brought_over() {
         let (mut kept, mut saved) = (open_by(scheme, 1e-6), open_by(scheme, 1e-6));
         for _ in 0..2 {
             let told = calls(&mut kept, None, |_| {});
-            assert_eq!(calls(&mut saved, None, |s| *s = Session::restore(&old(&s.save())).unwrap()), told);
+            assert_eq!(
+                calls(&mut saved, None, |s| *s = Session::restore(&old(&s.save())).unwrap()),
+                told
+            );
             assert_eq!(bits(&saved), bits(&kept));
         }
     }
@@ -376,14 +391,18 @@ fn bytes_of_another_length_are_an_error_in_words() {
         let error = Session::restore(&bytes).map(drop).unwrap_err();
         assert_eq!(error, RestoreError::Length(length));
         let words = error.to_string();
-        assert!(words.contains(" 5149 bytes") && words.contains(" 5029 ") && words.ends_with(&format!(" {length}")), "{words}");
+        assert!(
+            words.contains(" 5149 bytes") && words.contains(" 5029 ") && words.ends_with(&format!(" {length}")),
+            "{words}"
+        );
     }
 }
 
 #[test]
 fn saved_bytes_are_the_image_of_the_console() {
     let u = |x: f64| [x, x + 0.5, x + 0.25];
-    let mut s = Session::open_with_history(Scheme::Etd2, 0.1, &u(1.0), &u(2.0), 1e-6, &[1e-3, 1e-2, 1e-4], &u(3.0)).unwrap();
+    let mut s =
+        Session::open_with_history(Scheme::Etd2, 0.1, &u(1.0), &u(2.0), 1e-6, &[1e-3, 1e-2, 1e-4], &u(3.0)).unwrap();
     s.begin(-0.5, None).unwrap();
     s.supply(&u(4.0)).unwrap();
     s.supply(&u(5.0)).unwrap();
@@ -393,7 +412,11 @@ fn saved_bytes_are_the_image_of_the_console() {
     let mut at = 5;
     let mut next = |values: &[f64], places: usize| {
         for k in 0..places {
-            assert_eq!(bytes[at..at + 8], values.get(k).unwrap_or(&0.0).to_le_bytes(), "at {at}");
+            assert_eq!(
+                bytes[at..at + 8],
+                values.get(k).unwrap_or(&0.0).to_le_bytes(),
+                "at {at}"
+            );
             at += 8;
         }
     };
@@ -412,7 +435,12 @@ fn saved_bytes_are_the_image_of_the_console() {
 #[test]
 fn every_nan_is_saved_as_one() {
     let mut bytes = open(Scheme::Exp4).save();
-    for pattern in [0x7ff0_0000_0000_0001u64, 0xfff8_0000_0000_0000, 0x7fff_ffff_ffff_ffff, 0x7ff8_0000_0000_0000] {
+    for pattern in [
+        0x7ff0_0000_0000_0001u64,
+        0xfff8_0000_0000_0000,
+        0x7fff_ffff_ffff_ffff,
+        0x7ff8_0000_0000_0000,
+    ] {
         bytes[157..165].copy_from_slice(&pattern.to_le_bytes());
         let mut s = Session::restore(&bytes).unwrap();
         assert!(s.state()[0].is_nan());
@@ -479,11 +507,20 @@ fn forged_bytes_are_refused_by_the_next_call() {
             assert_eq!((s.drop_attempt(), s.first_step(1.0)), (Err(refusal), Err(refusal)));
         }
     }
-    assert_eq!(forged(&asking, 13, &0f64.to_le_bytes()).drop_attempt(), Err(Refusal::Step));
+    assert_eq!(
+        forged(&asking, 13, &0f64.to_le_bytes()).drop_attempt(),
+        Err(Refusal::Step)
+    );
     // the session is tested before a length that does not fit, the phase before its tolerances
     let mut s = forged(&rest, 29, &0f64.to_le_bytes());
-    assert_eq!((s.accept(&[]), s.begin(0.01, Some(&[]))), (Err(Refusal::Phase), Err(Refusal::Tolerance)));
-    assert_eq!(forged(&asking, 29, &0f64.to_le_bytes()).supply(&[]), Err(Refusal::Tolerance));
+    assert_eq!(
+        (s.accept(&[]), s.begin(0.01, Some(&[]))),
+        (Err(Refusal::Phase), Err(Refusal::Tolerance))
+    );
+    assert_eq!(
+        forged(&asking, 29, &0f64.to_le_bytes()).supply(&[]),
+        Err(Refusal::Tolerance)
+    );
     // an attempt above 2 counts as 2
     let mut s = forged(&asking, 3, &[7]);
     assert!(s.save() == asking);
