@@ -222,7 +222,7 @@ pub struct Stepped {
 pub enum Tolerance<'a> {
     /// The same for every component.
     All(f64),
-    /// Each component's own: as many as there are components.
+    /// Each component's own. Where they are not as many as the components, the call is refused by [`Refusal::Size`].
     Each(&'a [f64]),
 }
 

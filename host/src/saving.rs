@@ -38,8 +38,8 @@ fn read(figures: &mut [f64], bytes: &[u8]) {
 }
 
 impl Session {
-    /// The session as bytes, with its attempt and the answers so far: the image that the program `console` shows. The open question is not
-    /// in them: keep it too, or drop the attempt after restoring.
+    /// The session as bytes, the same on every machine, with its attempt and the answers so far: the image that the program `console` shows.
+    /// The open question is not in them: keep it too, or drop the attempt after restoring.
     ///
     /// ```
     /// use vunchrem::{Scheme, Session};
@@ -63,7 +63,7 @@ impl Session {
     /// The session that was saved. Bytes from before there was a tolerance for each component are told by their length and brought over:
     /// every component gets the one tolerance that they have.
     ///
-    /// Only the length is tested here. The next call judges the session, and refuses one that no run can have come to.
+    /// Only the length is tested here. Whatever else is wrong with the bytes, the next call refuses the session by its number.
     pub fn restore(bytes: &[u8]) -> Result<Session, RestoreError> {
         if ![layout::BYTES, layout::OLD_BYTES].contains(&bytes.len()) {
             return Err(RestoreError::Length(bytes.len()));
