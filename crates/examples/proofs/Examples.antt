@@ -24,7 +24,8 @@ use Rattle.session.specs.Session.{isHeld, pointOf, question, differencing, prog
 use Rattle.session.specs.Calls.{opened, nothing, begun, answered, hasError, readyOf, shown, vectorTests, attemptOf, attemptTests, largestTests}
 use Rattle.session.specs.Calls.{beginTests, supplyTests, firstStepTests, openCall, beginCall, supplyCall, firstStepCall}
 use Rattle.session.specs.Bare.{exponentialTests, normTests, exponentialCall, normCall}
-use Rattle.examples.specs.Examples.{only, pair, lent, running, resting, remembering, tolerating, begins, supplies, Gives, single, Squares, asked, differenced, jacobianOf, Examples, OwnTolerances}
+use Rattle.examples.specs.Examples.{only, pair, lent, running, resting, remembering, tolerating, begins, supplies, Gives, single, Squares, asked, differenced, jacobianOf}
+use Rattle.examples.specs.Examples.{Examples, OwnTolerances}
 
 -- ---- what is opened to compute
 

@@ -5,7 +5,7 @@ use native.Mathlib.Decide.{decLt}
 use native.Mathlib.Omega.{arith}
 use mathlib.Core.Path.{_≡_, refl, sym, ap, _∙_}
 use mathlib.Core.Bool.{Bool, true, false, cond, _&&_, _||_, true≢false}
-use mathlib.Core.List.{List, []}
+use mathlib.Core.List.{List, [], _++_}
 use lib.Dec.{ltb}
 use lib.Ieee.{Float, nan}
 use lib.ListN.{length, take, drop}
@@ -22,15 +22,22 @@ use Rattle.engine.specs.Claims.{Equal}
 use Rattle.engine.proofs.Equal.{equal-tolerances}
 use Rattle.session.specs.declared.Head.{Head}
 use Rattle.session.specs.declared.OldSession.{OldSession}
+use Rattle.session.specs.declared.Session.{Session}
+use Rattle.session.specs.declared.Phase.the-variants.{Rest, Asking, Waiting}
 use Rattle.session.specs.declared.Wants.{Wants}
-use Rattle.session.specs.Tests.{fault, unless}
+use Rattle.session.specs.declared.Wants.the-variants.{Any, Only}
+use Rattle.session.specs.Tests.{Tests, fault, unless}
+use Rattle.session.specs.Values.{valuesOf, number}
 use Rattle.session.specs.Session.{jacobianRoom, clear, sizeOk, runPlaces, attemptPlaces, good1, good2, phaseOf, good7, positive, tolerancesOk, good4, good3, sessionTests}
 use Rattle.session.specs.Figures.{FIGURES, timeAt, stepAt, relativeAt, absoluteAt, stateAt, derivativeAt, previousAt, jacobianAt, answersAt, part, sessionOf, figuresOf}
-use Rattle.session.specs.Calls.{readyOf, firstStepCall}
+use Rattle.session.specs.Calls.{refuse, refuseLent, readyOf, beginTests, supplyTests, acceptTests, firstStepTests, beginCall, supplyCall, acceptCall, dropCall, firstStepCall}
+use Rattle.session.specs.Runs.{Call, begin, supply, accept, drop as dropping, firstStep, wantsOf, perform}
 use Rattle.session.specs.Bare.{normTests, normCall}
-use Rattle.session.specs.Old.{oldFigures, oldStateAt, oldDerivativeAt, oldPreviousAt, oldJacobianAt, oldAnswersAt, oldSessionOf, copied, tolerating, broughtOver, bothPositive, oldRunPlaces, oldTests, oldNormTests, oldNormCall, AsBefore}
+use Rattle.session.specs.Old.{oldFigures, oldStateAt, oldDerivativeAt, oldPreviousAt, oldJacobianAt, oldAnswersAt, oldSessionOf}
+use Rattle.session.specs.Old.{copied, tolerating, broughtOver, bothPositive, oldRunPlaces, oldTests, oldNormTests, oldNormCall, AsBefore}
 use Rattle.session.proofs.Clear.{zero-plus}
-use Rattle.session.proofs.Laws.{size-both}
+use Rattle.session.proofs.Laws.{size-both, session-fails}
+use Rattle.session.proofs.Tests.{unless-refused}
 use Rattle.session.proofs.Parts.{length-part, part-at, is-part, slice-part, read-before, part-before, part-put}
 use Rattle.session.proofs.Inverse.{Long, session-back, figures-back}
 use Rattle.session.proofs.Writes.{by-fields}
@@ -109,6 +116,25 @@ module _ (wants : Wants) (o : OldSession) where
   same-number true e = rw (old-places, old-two, old-phase, old-numbers, old-tolerances e) (unfold broughtOver in refl)
   same-number false e = rw (old-places, e)
 
+-- ---- a session that is refused: the call gives its number, whatever is handed in
+
+refused-number : {A : Type 0} (of : A → ℕ) (k : ℕ) (refuse : ℕ → A) (next : A) → ((j : ℕ) → of (refuse j) ≡ j) → (k ≡ 0 → ⊥) → of (unless k refuse next) ≡ k
+refused-number of k refuse next reads h = ap of (sym (unless-refused k refuse next h)) ∙ reads k
+
+tested-number : {A : Type 0} (of : A → ℕ) (wants : Wants) (s : Session) (handed : Tests) (refuse : ℕ → A) (next : A) → ((j : ℕ) → of (refuse j) ≡ j)
+    → (fault (sessionTests wants s) ≡ 0 → ⊥) → of (unless (fault (sessionTests wants s ++ handed)) refuse next) ≡ fault (sessionTests wants s)
+tested-number of wants s handed refuse next reads h =
+    let e = session-fails wants s handed refl h in
+    refused-number of (fault (sessionTests wants s ++ handed)) refuse next reads (λ z. h (e ∙ z)) ∙ sym e
+
+refused-call : (c : Call) (s : Session) → (fault (sessionTests (wantsOf c) s) ≡ 0 → ⊥) → number (perform c s .told .answer) ≡ fault (sessionTests (wantsOf c) s)
+unfolding wantsOf perform number valuesOf beginCall beginTests supplyCall supplyTests acceptCall acceptTests dropCall firstStepCall firstStepTests
+refused-call (begin step wish jacobian out) s h = tested-number (λ r. number (r .told .answer)) (Only Rest) s _ (refuseLent s out) _ (λ j. refl) h
+refused-call (supply answer out) s h = tested-number (λ r. number (r .told .answer)) (Only Asking) s _ (refuseLent s out) _ (λ j. refl) h
+refused-call (accept derivative) s h = tested-number (λ r. number (r .answer)) (Only Waiting) s _ (refuse s) _ (λ j. refl) h
+refused-call dropping s h = refused-number (λ r. number (r .answer)) (fault (sessionTests Any s)) (refuse s) _ (λ j. refl) h
+refused-call (firstStep largest) s h = tested-number (λ r. number (r .answer)) Any s _ (refuse s) _ (λ j. refl) h
+
 -- ---- the bare error norm
 
 module _ (n : ℕ) (relative one : Float) (error state candidate : List Float) where
@@ -127,7 +153,10 @@ module _ (n : ℕ) (relative one : Float) (error state candidate : List Float) w
 -- ---- THE CLAIM
 pub as-before : AsBefore
 as-before = record {
-  number = λ wants o. same-number wants o (sizeOk (o .n)) refl;
+  judged = λ wants o. same-number wants o (sizeOk (o .n)) refl;
+  next = λ c o h.
+      let e = same-number (wantsOf c) o (sizeOk (o .n)) refl in
+      refused-call c (broughtOver o) (λ z. h (sym e ∙ z)) ∙ e;
   own = λ o i h l. unfold broughtOver in own-at (o .n) (o .absolute) i h l;
   others = λ o i h l. unfold broughtOver in other-at (o .n) (o .absolute) i h l;
   ready = λ s one equal candidate error. unfold readyOf in rw (equal-tolerances .norm (s .n) (s .relative) one (s .absolute) equal (s .state) candidate error);

@@ -18,10 +18,12 @@ use Rattle.session.specs.declared.Answer.{Answer}
 use Rattle.session.specs.declared.Answer.the-variants.{Ready, FirstStep, Norm, Refused}
 use Rattle.session.specs.declared.Wants.{Wants}
 use Rattle.session.specs.Tests.{Tests, fault, unless}
+use Rattle.session.specs.Values.{number}
 use Rattle.session.specs.Session.{jacobianRoom, clear, usedHistory, wantedBy, sizeOk, attemptPlaces, good2, good7, positive, good5, good3, sessionTests}
 use Rattle.session.specs.Figures.{timeAt, stepAt, relativeAt, absoluteAt, part}
 use Rattle.session.specs.Calls.{tell, refuse, hasError, readyOf, firstStepTests, firstStepCall}
 use Rattle.session.specs.Bare.{normCall}
+use Rattle.session.specs.Runs.{Call, wantsOf, perform}
 
 -- ---- the old layout: up to the tolerance as today; then one place, and each array behind the one before it
 
@@ -130,8 +132,10 @@ oldNormCall n relative absolute error state candidate =
 -- ---- THE CLAIM: as before
 
 pub record AsBefore : Type 0 where
-  -- an old session that was refused is refused, once it is brought over, by the same number, and no other one is: n of every kind
-  pub number : (wants : Wants) (o : OldSession) → fault (sessionTests wants (broughtOver o)) ≡ fault (oldTests wants o)
+  -- a session that is brought over has the number that it had, 0 too: n of every kind
+  pub judged : (wants : Wants) (o : OldSession) → fault (sessionTests wants (broughtOver o)) ≡ fault (oldTests wants o)
+  -- so the next call, whatever it hands in, refuses by that number each one that it would have refused before
+  pub next : (c : Call) (o : OldSession) → (fault (oldTests (wantsOf c) o) ≡ 0 → ⊥) → number (perform c (broughtOver o) .told .answer) ≡ fault (oldTests (wantsOf c) o)
   -- its tolerance stands in the first n places, and +0.0 in the others
   pub own : (o : OldSession) (i : ℕ) → i < o .n → i < places → broughtOver o .absolute ! i ≡ o .absolute
   pub others : (o : OldSession) (i : ℕ) → o .n ≤ i → i < places → broughtOver o .absolute ! i ≡ zero+

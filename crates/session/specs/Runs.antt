@@ -4,6 +4,9 @@ use mathlib.Core.List.{List, [], _∷_}
 use lib.Ieee.{Float}
 use Rattle.session.specs.declared.Session.{Session}
 use Rattle.session.specs.declared.Wish.{Wish}
+use Rattle.session.specs.declared.Phase.the-variants.{Rest, Asking, Waiting}
+use Rattle.session.specs.declared.Wants.{Wants}
+use Rattle.session.specs.declared.Wants.the-variants.{Any, Only}
 use Rattle.session.specs.Session.{Run}
 use Rattle.session.specs.Calls.{Outcome, outcome, openCall, beginCall, supplyCall, acceptCall, dropCall, firstStepCall}
 
@@ -14,6 +17,14 @@ pub data Call : Type 0 where
   accept : List Float → Call
   drop : Call
   firstStep : Float → Call
+
+-- in which phase it wants the session
+unfoldable pub wantsOf : Call → Wants
+wantsOf (begin step wish jacobian out) = Only Rest
+wantsOf (supply answer out) = Only Asking
+wantsOf (accept derivative) = Only Waiting
+wantsOf drop = Any
+wantsOf (firstStep largest) = Any
 
 -- demand 2's definition of a call; one that is lent no output leaves none
 unfoldable pub perform : Call → Session → Outcome

@@ -1116,7 +1116,8 @@ impl Head {
         figures: &mut [f64],
     ) -> Left
         ensures { λ r. ⌜ remains r (now (figures .exit)) ≡ lentOpen
-            (eqb (length (now (figures .entry))) FIGURES && eqb (length (now (absolute .entry))) places && eqb (length (now (state .entry))) places && eqb (length (now (derivative .entry))) places && eqb (length (now (previous .entry))) places)
+            (eqb (length (now (figures .entry))) FIGURES && eqb (length (now (absolute .entry))) places
+            && eqb (length (now (state .entry))) places && eqb (length (now (derivative .entry))) places && eqb (length (now (previous .entry))) places)
             (now (figures .entry)) (record {
               scheme = scheme;
               n = n;

@@ -36,4 +36,7 @@ estimate-initial-step-spec =
     (λ c. (omega arith, most-step _ _ _ _ _ _ (c .before .before .before .before .before .before .loop .inv .1) (c .before .rate .ensures) (c .larger .ensures)))
     (λ c κs. tt)
     (λ c κs. tt)
-    (λ c. rw (c .clamp .ensures, c .before .estimate .ensures, most-end _ _ _ (c .before .before .before .before .before .before .before .args .n) _ (c .before .before .before .loop .inv .1) (omega arith))))
+    (λ c.
+    let c3 = c .before .before .before in
+    let n = c3 .before .before .before .before .args .n in
+    rw (c .clamp .ensures, c .before .estimate .ensures, most-end _ _ _ n _ (c3 .loop .inv .1) (omega arith))))
