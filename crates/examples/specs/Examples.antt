@@ -10,7 +10,7 @@ use Rattle.float.specs.Arith.{_⊗_, zero+}
 use Rattle.matrix.specs.Matrix.{norm, exponential}
 use Rattle.methods.specs.Numbers.{num, minus, decimal}
 use Rattle.methods.specs.Sizes.{etd2Number, exprb32Number}
-use Rattle.engine.specs.Engine.{jacobianEntry, hundredth}
+use Rattle.engine.specs.Engine.{jacobianEntry}
 use Rattle.session.specs.declared.Session.{Session}
 use Rattle.session.specs.declared.Told.{Told}
 use Rattle.session.specs.declared.Answer.the-variants.{Ask, Ready, FirstStep, Norm, Refused}
@@ -55,7 +55,7 @@ remembering scheme u f0 previous = openCall (running scheme 1 (num 1) u f0 Held 
 unfoldable pub pair : Float → Float → List Float
 pair x y = x ∷ y ∷ replicate 14 zero+
 
--- NorsettEuler opened with n = 2 at (1, 1), where the derivative is (2, 4), with the relative tolerance 1 and these absolute ones
+-- NorsettEuler opened with n = 2 at (1, 1), where the derivative is (2, 8), with the relative tolerance 1 and these absolute ones
 unfoldable pub tolerating : List Float → Told
 tolerating absolute =
     openCall (record {
@@ -63,7 +63,7 @@ tolerating absolute =
       n = 2;
       time = zero+;
       state = pair (num 1) (num 1);
-      derivative = pair (num 2) (num 4);
+      derivative = pair (num 2) (num 8);
       relative = num 1;
       absolute = absolute;
       history = Missing;
@@ -169,8 +169,8 @@ pub record Examples : Type 0 where
 pub record OwnTolerances : Type 0 where
   -- the tolerances 1 and 2 divide the errors 1 and 14 into 1 and 7, so the norm is 5
   pub errorNorm : normCall 2 (num 1) (pair (num 1) (num 2)) (pair (num 1) (num 14)) (pair zero+ zero+) (pair zero+ zero+) ≡ Norm (num 5)
-  -- with 1 and 3 both rates are 1, 2/(1 + 1) and 4/(3 + 1): the first step is 0.01
-  pub firstStep : firstStepCall (tolerating (pair (num 1) (num 3)) .session) (num 1) .answer ≡ FirstStep hundredth
+  -- with 1 and 7 both rates are 1, 2/(1 + 1) and 8/(7 + 1), which suggests 0.01; with 1 for both it would be 0.0025
+  pub firstStep : firstStepCall (tolerating (pair (num 1) (num 7)) .session) (decimal 5 3) .answer ≡ FirstStep (decimal 5 3)
   -- a tolerance past n
   pub refused-1 : tolerating (replicate 16 (num 1)) .answer ≡ Refused 1
   -- the second of two is not positive
