@@ -1,7 +1,7 @@
 // engine.rs: the differenced Jacobian, the error norm and the first step.
 ghost use mathlib.Core.Path.{_≡_};
 ghost use mathlib.Core.Bool.{true};
-ghost use Prim.Native.Nat.{ℕ, _+_, _*_, _≤_, _<_};
+ghost use Prim.Native.Nat.{_+_, _*_, _≤_, _<_};
 ghost use lib.ListN.{length};
 ghost use Rattle.loops.specs.Loop.{every, mat, stores, _!_};
 ghost use Rattle.float.specs.Arith.{_⊕_, _⊖_, _⊗_, _⊘_, finite, abs, larger};

@@ -18,7 +18,6 @@ use Rattle.session.specs.declared.History.the-variants.{Missing, Held}
 use Rattle.session.specs.declared.Attempt.{Attempt}
 use Rattle.session.specs.declared.Attempt.the-variants.{None, Supplied, Differenced}
 use Rattle.session.specs.declared.Wants.{Wants}
-use Rattle.session.specs.Tests.{fault}
 use Rattle.session.specs.Session.{Run, Trial, joined, fresh, idle, clear, usedHistory, usedJacobian, sizeOk, stepClear, runPlaces, attemptPlaces}
 use Rattle.session.specs.Session.{good1, good2, good3, good4, good5, good7, phaseOf, sessionTests, isHeld, pointOf, progressOf, progress}
 use Rattle.session.specs.Calls.{opened, nothing, begun, rested, answered, moved}

@@ -1,6 +1,5 @@
 -- The calls over lent figures, from what their steps leave. Assumes nothing.
 use Prim.Native.Nat.{ℕ, _<_}
-use native.Mathlib.Omega.{arith}
 use mathlib.Core.Path.{_≡_, refl, sym, ap, _∙_, subst}
 use mathlib.Core.Bool.{Bool, true, false, cond, _&&_}
 use mathlib.Core.List.{List}
@@ -15,11 +14,9 @@ use Rattle.session.specs.declared.Head.{Head}
 use Rattle.session.specs.declared.Left.{Left}
 use Rattle.session.specs.declared.Told.{Told}
 use Rattle.session.specs.declared.Answer.{Answer}
-use Rattle.session.specs.declared.Answer.the-variants.{Refused}
 use Rattle.session.specs.declared.Attempt.{Attempt}
 use Rattle.session.specs.declared.Wish.{Wish}
 use Rattle.session.specs.declared.Phase.the-variants.{Rest, Asking}
-use Rattle.session.specs.declared.Wants.{Wants}
 use Rattle.session.specs.declared.Wants.the-variants.{Any, Only}
 use Rattle.session.specs.Tests.{fault, condition, unless}
 use Rattle.session.specs.Session.{Run, Sound, clear, usedJacobian, admits, good7, sessionTests, progress}

@@ -1,41 +1,37 @@
 -- A session that an accepted call returns is refused by nothing but 7. Assumes nothing.
-use Prim.Native.Nat.{ℕ, suc, _+_, _*_, _≤_, _<_}
+use Prim.Native.Nat.{ℕ, suc, _+_, _<_}
 use native.Mathlib.Decide.{ℕ-discrete}
 use native.Mathlib.Omega.{arith}
-use mathlib.Core.Path.{_≡_, refl, sym, ap, _∙_, subst}
+use mathlib.Core.Path.{_≡_, refl, sym, subst}
 use mathlib.Core.Logic.{_⊎_, inl, inr}
 use mathlib.Core.Bool.{Bool, true, false, cond, _&&_, false≢true}
 use mathlib.Core.List.{List, [], _∷_}
 use lib.Dec.{ltb, leb, eqb}
 use lib.Ieee.{Float, ofBits}
-use lib.ListN.{length, replicate}
-use borrow.Author.Tests.{le-leb, leb-true}
+use lib.ListN.{length}
+use borrow.Author.Tests.{le-leb}
 use Rattle.loops.proofs.Bools.{both-true}
-use Rattle.loops.specs.Loop.{stores, _!_}
 use Rattle.float.specs.Arith.{_⊕_, zero+, finite, plusZero}
 use Rattle.evaluation.specs.Evaluation.{allFinite}
-use Rattle.evaluation.specs.Sizes.{places, answersKept, answerRoom}
+use Rattle.evaluation.specs.Sizes.{places, answerRoom}
 use Rattle.methods.specs.Sizes.{etd2Number}
 use Rattle.methods.specs.Step.{Progress, refused, asking, ended}
 use Rattle.methods.specs.Shape.{Whole}
 use Rattle.session.specs.declared.Session.{Session}
 use Rattle.session.specs.declared.Told.{Told}
-use Rattle.session.specs.declared.Answer.{Answer}
-use Rattle.session.specs.declared.Answer.the-variants.{Resting, FirstStep, Refused}
-use Rattle.session.specs.declared.History.{History}
-use Rattle.session.specs.declared.History.the-variants.{Missing, Held}
-use Rattle.session.specs.declared.Attempt.{Attempt}
-use Rattle.session.specs.declared.Attempt.the-variants.{None, Supplied, Differenced}
+use Rattle.session.specs.declared.Answer.the-variants.{Resting, Refused}
+use Rattle.session.specs.declared.History.the-variants.{Held}
+use Rattle.session.specs.declared.Attempt.the-variants.{None}
 use Rattle.session.specs.declared.Wish.{Wish}
 use Rattle.session.specs.declared.Wish.the-variants.{Given, Difference}
 use Rattle.session.specs.declared.Phase.the-variants.{Rest, Asking, Waiting}
 use Rattle.session.specs.declared.Wants.{Wants}
 use Rattle.session.specs.declared.Wants.the-variants.{Any, Only}
 use Rattle.session.specs.Tests.{fault, condition, unless}
-use Rattle.session.specs.Values.{number, valuesOf, figured}
-use Rattle.session.specs.Session.{jacobianRoom, schemes, Run, joined, fresh, idle, clear, clearAnswers, usedHistory, usedJacobian, stepClear, wanted, wantedBy, admits}
-use Rattle.session.specs.Session.{sizeOk, runPlaces, attemptPlaces, good1, historyOk, good2, good7, good4, stepOk, good5, good3, sessionTests, progress}
-use Rattle.session.specs.Calls.{Outcome, outcome, tell, refuse, refuseLent, opened, nothing, begun, rested, answered, moved, readyOf, shown, arrived, settled, attemptOf}
+use Rattle.session.specs.Values.{number, valuesOf}
+use Rattle.session.specs.Session.{jacobianRoom, schemes, Run, fresh, idle, clear, clearAnswers, usedHistory, usedJacobian, stepClear, wanted, wantedBy}
+use Rattle.session.specs.Session.{sizeOk, runPlaces, attemptPlaces, good1, historyOk, good2, good4, stepOk, good5, good3, sessionTests, progress}
+use Rattle.session.specs.Calls.{Outcome, tell, refuse, refuseLent, opened, nothing, begun, rested, answered, moved, shown, arrived, settled, attemptOf}
 use Rattle.session.specs.Calls.{vectorTests, attemptTests, beginTests, supplyTests, acceptTests, firstStepTests}
 use Rattle.session.specs.Calls.{openCall, beginCall, supplyCall, acceptCall, dropCall, firstStepCall}
 use Rattle.session.specs.Refusals.{Kept, Unchanged}

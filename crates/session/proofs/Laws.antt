@@ -1,6 +1,6 @@
 -- What follows from tests that passed, and what is told of an attempt. Assumes nothing.
 use Rattle.loops.proofs.Bools.{both-true}
-use Rattle.methods.specs.Step.{questions, Progress, refused, progress as reached, progressKind}
+use Rattle.methods.specs.Step.{Progress, refused, progress as reached, progressKind}
 use Rattle.session.specs.Tests.{Tests, fault, condition, numbered, unless}
 use Rattle.session.specs.Session.{schemes, largest, Run, joined, trialOf, fresh, wanted, wantedBy, phaseWith, phaseAt, phaseOf, phaseNumber, admits, sizeOk, runPlaces, attemptPlaces}
 use Rattle.float.specs.Arith.{finite}
@@ -10,16 +10,16 @@ use Rattle.methods.proofs.Shape.{questions-small}
 use Rattle.evaluation.specs.Sizes.{answersKept}
 use Rattle.methods.specs.Vectors.{Sized}
 use Rattle.session.specs.Bare.{exponentialTests, phiTests, normTests}
-use Rattle.session.specs.Calls.{Outcome, outcome, tell, refuse, refuseLent, opened, nothing, openCall, begun, answered, attemptOf, vectorTests, attemptTests, beginTests, supplyTests}
+use Rattle.session.specs.Calls.{outcome, tell, refuse, opened, nothing, openCall, begun, answered, attemptOf, vectorTests, attemptTests, beginTests, supplyTests}
 use Rattle.session.specs.Calls.{acceptTests, firstStepTests, shown, arrived, settled, answerOf}
-use Prim.Native.Nat.{ℕ, zero, suc, _+_, _*_, _≤_, _<_}
-use mathlib.Core.Path.{_≡_, refl, sym, subst}
+use Prim.Native.Nat.{ℕ, _+_, _*_, _≤_, _<_}
+use mathlib.Core.Path.{_≡_, refl}
 use mathlib.Core.Bool.{Bool, true, false, cond, not, _&&_, false≢true}
-use mathlib.Core.List.{List, [], _∷_, _++_}
+use mathlib.Core.List.{List, [], _++_}
 use native.Mathlib.Omega.{arith}
 use lib.Dec.{leb, ltb, eqb}
 use lib.Ieee.{Float}
-use lib.ListN.{length, getD}
+use lib.ListN.{length}
 use borrow.Author.Tests.{leb-true, ltb-true, eqb-true}
 use Rattle.loops.specs.Loop.{tab, _!_}
 use native.Mathlib.Nat.{mul-le-mul}
@@ -29,7 +29,7 @@ use Rattle.methods.specs.declared.Kind.the-variants.{Question, Done}
 use Rattle.session.specs.declared.Session.{Session}
 use Rattle.session.specs.declared.Told.{Told}
 use Rattle.session.specs.declared.Answer.{Answer}
-use Rattle.session.specs.declared.Answer.the-variants.{Resting, Refused}
+use Rattle.session.specs.declared.Answer.the-variants.{Resting}
 use Rattle.session.specs.declared.Attempt.{Attempt}
 use Rattle.session.specs.declared.Attempt.the-variants.{None, Supplied, Differenced}
 use Rattle.session.specs.declared.Phase.{Phase}

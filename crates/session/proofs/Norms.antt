@@ -1,5 +1,5 @@
 -- The error norm that a call tells is never a NaN. Assumes nothing.
-use Prim.Native.Nat.{ℕ, suc, _*_, _≤_, _<_}
+use Prim.Native.Nat.{ℕ, _*_, _≤_, _<_}
 use mathlib.Core.Path.{_≡_, refl, sym, subst}
 use mathlib.Core.Bool.{Bool, true, false, cond, _&&_}
 use mathlib.Core.List.{List}
@@ -20,7 +20,6 @@ use Rattle.engine.proofs.Norm.{norm-number}
 use Rattle.session.specs.declared.Session.{Session}
 use Rattle.session.specs.declared.Answer.{Answer}
 use Rattle.session.specs.declared.Answer.the-variants.{Ask, Ready, Resting, FirstStep, Filled, Norm, Refused}
-use Rattle.session.specs.declared.Attempt.{Attempt}
 use Rattle.session.specs.declared.Phase.the-variants.{Rest, Asking}
 use Rattle.session.specs.declared.Wants.{Wants}
 use Rattle.session.specs.declared.Wants.the-variants.{Only}

@@ -1,17 +1,15 @@
 -- The tests of a run that is to be opened: its attempt holds nothing. Assumes nothing.
 use Prim.Native.Nat.{ℕ}
-use mathlib.Core.Path.{_≡_, refl, sym, ap, _∙_}
+use mathlib.Core.Path.{_≡_, refl, sym, _∙_}
 use mathlib.Core.Bool.{Bool, true, false, cond, not, _&&_, and-true}
 use mathlib.Core.List.{List, [], _∷_}
 use lib.Ieee.{Float, ofBits}
-use lib.ListN.{replicate}
-use Rattle.float.specs.Arith.{zero+, finite, plusZero}
+use Rattle.float.specs.Arith.{finite, plusZero}
 use Rattle.evaluation.specs.Evaluation.{allFinite}
 use Rattle.evaluation.specs.Sizes.{answerRoom}
-use Rattle.session.specs.declared.Session.{Session}
 use Rattle.session.specs.declared.Wants.the-variants.{Any}
-use Rattle.session.specs.Tests.{Tests, fault}
-use Rattle.session.specs.Session.{Run, jacobianRoom, fresh, idle, clear, clearAnswers, usedHistory, usedJacobian, stepClear, sizeOk, runPlaces, attemptPlaces}
+use Rattle.session.specs.Tests.{fault}
+use Rattle.session.specs.Session.{Run, jacobianRoom, fresh, idle, clear, usedHistory, usedJacobian, stepClear, sizeOk, runPlaces, attemptPlaces}
 use Rattle.session.specs.Session.{good1, good2, good3, good4, good5, good7, admits, tolerancesOk, sessionTests}
 use Rattle.loops.proofs.Bools.{both-true}
 use Rattle.session.specs.declared.Head.{Head}

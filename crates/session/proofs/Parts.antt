@@ -1,32 +1,30 @@
 -- Figures one behind the other: what is read after a run of stores, and a session's numbers and figures as its own. Assumes nothing.
-use Prim.Native.Nat.{ℕ, zero, suc, _+_, _-_, _*_, _≤_, _<_}
+use Prim.Native.Nat.{ℕ, zero, suc, _+_, _-_, _≤_, _<_}
 use native.Mathlib.Nat.{zero-add, suc-add, add-assoc}
-use native.Mathlib.Numerals.{add-one}
 use native.Mathlib.Decide.{decLt}
 use native.Mathlib.Omega.{arith}
 use mathlib.Core.Path.{_≡_, refl, sym, ap, _∙_, subst}
 use mathlib.Core.Logic.{_≢_}
-use mathlib.Core.Bool.{Bool, true, false, _&&_, and-assoc}
-use mathlib.Core.List.{List, [], _∷_, _++_, append-assoc}
+use mathlib.Core.Bool.{Bool, true, false, _&&_}
+use mathlib.Core.List.{List, [], _∷_}
 use lib.Dec.{T}
 use lib.Ieee.{Float, nan, binary64, fits}
-use lib.ListN.{length, set, take, drop, getD, replicate, length-set, length-append, length-drop, length-replicate, getD-replicate, List·getD-append}
-use lib.Seq.{ext-getD, getD-append-add, set-getD, getD-set-same, getD-set-other, length-take-le}
+use lib.ListN.{length, set, take, drop, replicate, length-drop, length-replicate, getD-replicate}
+use lib.Seq.{getD-set-other, length-take-le}
 use Rattle.loops.proofs.Bools.{both-true}
-use Rattle.loops.specs.Loop.{tab, from, fill, stores, every, _!_}
-use Rattle.loops.proofs.Loops.{every-ext, length-tab, getD-tab, tab-at, fill-none, fill-step, stores-none, past-end}
-use Rattle.loops.proofs.Stores.{is-tab, tab-ext, stores-suc, stores-out, stores-in, length-stores}
+use Rattle.loops.specs.Loop.{from, stores, every, _!_}
+use Rattle.loops.proofs.Loops.{every-ext, length-tab, tab-at, past-end}
+use Rattle.loops.proofs.Stores.{is-tab, tab-ext, stores-out, stores-in, length-stores}
 use Rattle.float.specs.Arith.{zero+, finite}
 use Rattle.evaluation.specs.Evaluation.{allFinite}
 use Rattle.evaluation.specs.Sizes.{places, answerRoom}
-use Rattle.session.specs.declared.Session.{Session}
 use Rattle.session.specs.declared.Head.{Head}
 use Rattle.session.specs.Session.{jacobianRoom, good3, tolerancesOk, good4, good5}
 use Rattle.session.specs.Claims.{Doubles, Typed}
 use Rattle.session.specs.Figures.{FIGURES, timeAt, stepAt, relativeAt, absoluteAt, stateAt, derivativeAt, previousAt, jacobianAt, answersAt}
 use Rattle.session.proofs.Blank.{every-split}
 use Rattle.session.specs.Lent.{arraysFinite}
-use Rattle.session.specs.Figures.{part, first, sessionOf, headOf, arrays, behind, figuresOf}
+use Rattle.session.specs.Figures.{part, first, sessionOf, arrays, behind}
 
 -- ---- parts
 

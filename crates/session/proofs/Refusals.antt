@@ -1,7 +1,7 @@
 -- Demand 1 of the definitions: the number of each call, and what a refusal leaves. Assumes nothing.
-use Prim.Native.Nat.{ℕ, zero, suc}
-use mathlib.Core.Path.{_≡_, refl, sym, subst}
-use mathlib.Core.Logic.{_⊎_, inl, inr}
+use Prim.Native.Nat.{ℕ}
+use mathlib.Core.Path.{_≡_, refl}
+use mathlib.Core.Logic.{inl, inr}
 use mathlib.Core.Bool.{Bool, true, false, cond}
 use mathlib.Core.List.{List, [], _∷_, _++_}
 use lib.Ieee.{Float}
@@ -14,14 +14,12 @@ use Rattle.methods.specs.Phi.{phiAction}
 use Rattle.methods.specs.Step.{Progress, refused, asking, ended}
 use Rattle.session.specs.declared.Session.{Session}
 use Rattle.session.specs.declared.Told.{Told}
-use Rattle.session.specs.declared.Answer.{Answer}
-use Rattle.session.specs.declared.Answer.the-variants.{Resting, FirstStep, Filled, Norm, Refused}
-use Rattle.session.specs.declared.Phase.the-variants.{Rest, Asking, Waiting}
-use Rattle.session.specs.declared.Wants.the-variants.{Any, Only}
+use Rattle.session.specs.declared.Answer.the-variants.{Resting, Filled, Refused}
+use Rattle.session.specs.declared.Wants.the-variants.{Any}
 use Rattle.session.specs.Tests.{Tests, fault, numbered, unless}
 use Rattle.session.specs.Values.{figured, valuesOf, number}
 use Rattle.session.specs.Session.{sessionTests, progress}
-use Rattle.session.specs.Calls.{Outcome, outcome, tell, refuse, refuseLent, opened, nothing, begun, answered, moved, readyOf, rested, shown, arrived, settled, attemptOf}
+use Rattle.session.specs.Calls.{Outcome, tell, refuse, refuseLent, opened, nothing, begun, answered, moved, readyOf, rested, shown, arrived, settled, attemptOf}
 use Rattle.session.specs.Calls.{vectorTests, attemptTests, largestTests, beginTests, supplyTests, acceptTests, firstStepTests}
 use Rattle.session.specs.Calls.{openCall, beginCall, supplyCall, acceptCall, dropCall, firstStepCall}
 use Rattle.session.specs.Bare.{Bare, bare, refuseBare, exponentialTests, phiTests, normTests, exponentialCall, phiCall, normCall}

@@ -2,7 +2,7 @@
 use Prim.Native.Nat.{ℕ, _≤_, _<_}
 use native.Mathlib.Omega.{arith}
 use mathlib.Core.Path.{_≡_, refl, sym, _∙_}
-use mathlib.Core.Bool.{Bool, true, false, cond, _&&_, _||_, true≢false, and-false}
+use mathlib.Core.Bool.{Bool, true, false, cond, _||_, true≢false, and-false}
 use mathlib.Core.List.{List}
 use lib.Dec.{ltb}
 use lib.Ieee.{Float}
@@ -13,7 +13,7 @@ use Rattle.loops.proofs.Loops.{every-at, every-of}
 use Rattle.float.specs.Arith.{plusZero}
 use Rattle.evaluation.specs.Sizes.{places}
 use Rattle.session.specs.declared.Session.{Session}
-use Rattle.session.specs.Session.{clear, sizeOk, runPlaces, attemptPlaces, good1, positive, tolerancesOk, good4}
+use Rattle.session.specs.Session.{clear, sizeOk, runPlaces, good1, positive, tolerancesOk, good4}
 use Rattle.session.specs.Claims.{Tolerances}
 
 -- a test that one of n items fails

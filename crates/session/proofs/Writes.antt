@@ -1,11 +1,11 @@
 -- What the stores of a call leave of the session whose figures they change. Assumes nothing.
-use Prim.Native.Nat.{ℕ, zero, suc, _+_, _-_, _*_, _/_, _%_, _≤_, _<_}
-use native.Mathlib.Nat.{zero-add, add-zero}
+use Prim.Native.Nat.{ℕ, _+_, _*_, _/_, _≤_, _<_}
+use native.Mathlib.Nat.{zero-add}
 use native.Mathlib.Decide.{decLt}
 use native.Mathlib.Omega.{arith}
 use mathlib.Core.Path.{_≡_, refl, sym, ap, _∙_, subst}
 use mathlib.Core.Logic.{_≢_}
-use mathlib.Core.Bool.{Bool, true, false, cond, _&&_, _||_}
+use mathlib.Core.Bool.{Bool, true, false, _||_}
 use mathlib.Core.List.{List}
 use lib.Dec.{T, ltb, eqb}
 use lib.Ieee.{Float, nan, binary64, fits}
@@ -13,7 +13,6 @@ use lib.ListN.{length, set, take, replicate, length-set, length-replicate, getD-
 use lib.Seq.{ext-getD, getD-set-same, getD-set-other, getD-take, length-take-le}
 use borrow.Author.Tests.{le-ltb}
 use Rattle.loops.proofs.Loops.{every-at}
-use Rattle.loops.proofs.Places.{slot-row}
 use Rattle.loops.proofs.Stores.{stores-out, stores-in, length-stores}
 use Rattle.loops.specs.Loop.{stores, every, _!_}
 use Rattle.float.specs.Arith.{_⊕_, zero+, plusZero, finite}
@@ -28,7 +27,7 @@ use Rattle.session.specs.declared.Phase.the-variants.{Rest}
 use Rattle.session.specs.declared.Wants.{Wants}
 use Rattle.session.specs.declared.Wants.the-variants.{Any, Only}
 use Rattle.session.specs.Tests.{fault}
-use Rattle.session.specs.Session.{jacobianRoom, Run, Trial, joined, runOf, trialOf, fresh, idle, clear, inAnswers, clearAnswers, usedJacobian, wantedBy, admits, good7, sessionTests}
+use Rattle.session.specs.Session.{jacobianRoom, Trial, trialOf, fresh, idle, clear, inAnswers, clearAnswers, usedJacobian, admits, good7, sessionTests}
 use Rattle.session.specs.Claims.{Doubles, Typed, Closed}
 use Rattle.session.specs.declared.Left.{Left}
 use Rattle.session.specs.declared.Answer.the-variants.{Resting}
@@ -38,7 +37,7 @@ use Rattle.session.specs.Figures.{FIGURES, timeAt, stepAt, relativeAt, a
 use Rattle.session.proofs.Laws.{fault-none, wanted-small, area}
 use Rattle.session.proofs.Clear.{plus-zero-is}
 use Rattle.session.proofs.Blank.{wiped}
-use Rattle.session.proofs.Parts.{typed-of, read-after, read-before, part-after, part-before, set-part-after, part-within, part-put, part-wiped, length-part, part-at}
+use Rattle.session.proofs.Parts.{typed-of, read-before, part-after, part-before, set-part-after, part-within, part-put, part-wiped, length-part, part-at}
 use Rattle.session.proofs.Closed.{passed-good, good-closed}
 use Rattle.session.proofs.Drops.{idle-trial}
 

@@ -18,7 +18,6 @@ use Rattle.session.specs.declared.Session.{Session}
 use Rattle.session.specs.declared.Told.{Told}
 use Rattle.session.specs.declared.Answer.{Answer}
 use Rattle.session.specs.declared.Answer.the-variants.{Ask, Ready, Resting, FirstStep, Refused}
-use Rattle.session.specs.declared.History.{History}
 use Rattle.session.specs.declared.History.the-variants.{Missing, Held}
 use Rattle.session.specs.declared.Attempt.{Attempt}
 use Rattle.session.specs.declared.Attempt.the-variants.{Supplied, Differenced}
@@ -27,7 +26,7 @@ use Rattle.session.specs.declared.Wish.the-variants.{Given, Difference}
 use Rattle.session.specs.declared.Phase.the-variants.{Rest, Asking, Waiting}
 use Rattle.session.specs.declared.Wants.the-variants.{Any, Only}
 use Rattle.session.specs.Tests.{Tests, fault, unless}
-use Rattle.session.specs.Session.{Run, Trial, joined, runOf, fresh, idle, clear, usedJacobian, wantedBy, stepOk, sessionTests, progress}
+use Rattle.session.specs.Session.{Run, joined, runOf, fresh, idle, clear, usedJacobian, wantedBy, stepOk, sessionTests, progress}
 
 -- ---- outcomes
 

@@ -18,7 +18,7 @@ use Rattle.session.specs.declared.Answer.the-variants.{Ask, Ready, Resti
 use Rattle.session.specs.declared.Wish.{Wish}
 use Rattle.session.specs.declared.Phase.the-variants.{Rest, Waiting}
 use Rattle.session.specs.declared.Wants.{Wants}
-use Rattle.session.specs.declared.Wants.the-variants.{Any, Only}
+use Rattle.session.specs.declared.Wants.the-variants.{Only}
 use Rattle.session.specs.Tests.{fault}
 use Rattle.session.specs.Values.{number}
 use Rattle.session.specs.Session.{Run, jacobianRoom, wantedBy, good1, good7, positive, good4, sessionTests, progress}

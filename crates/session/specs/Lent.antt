@@ -1,9 +1,7 @@
 -- The calls over lent figures: what each leaves of the session whose figures it was lent. Definitions only.
 use Prim.Native.Nat.{ℕ, _*_}
-use mathlib.Core.Path.{_≡_}
 use mathlib.Core.Bool.{Bool, cond, _&&_}
 use mathlib.Core.List.{List}
-use lib.Dec.{eqb}
 use lib.Ieee.{Float}
 use lib.ListN.{length, take}
 use Rattle.session.specs.declared.Session.{Session}
@@ -15,12 +13,12 @@ use Rattle.session.specs.declared.Told.{Told}
 use Rattle.session.specs.declared.Answer.{Answer}
 use Rattle.session.specs.declared.Answer.the-variants.{Resting, Refused}
 use Rattle.evaluation.specs.Evaluation.{allFinite}
-use Rattle.loops.specs.Loop.{mat, every}
+use Rattle.loops.specs.Loop.{mat}
 use Rattle.methods.specs.Step.{Progress}
 use Rattle.engine.specs.Engine.{perturbed, jacobianEntry, columnOk}
 use Rattle.session.specs.Session.{Run, stepped, question}
 use Rattle.session.specs.Calls.{Outcome, tell, nothing, openCall}
-use Rattle.session.specs.Figures.{FIGURES, sessionOf, headOf, figuresOf}
+use Rattle.session.specs.Figures.{sessionOf, headOf, figuresOf}
 
 -- ---- what the code's steps hand on
 

@@ -20,7 +20,7 @@ use Rattle.session.specs.declared.Wants.{Wants}
 use Rattle.session.specs.Tests.{Tests, fault, unless}
 use Rattle.session.specs.Values.{number}
 use Rattle.session.specs.Session.{jacobianRoom, clear, usedHistory, wantedBy, sizeOk, attemptPlaces, good2, good7, positive, good5, good3, sessionTests}
-use Rattle.session.specs.Figures.{timeAt, stepAt, relativeAt, absoluteAt, part}
+use Rattle.session.specs.Figures.{timeAt, stepAt, relativeAt, absoluteAt, part, figuresOf}
 use Rattle.session.specs.Calls.{tell, refuse, hasError, readyOf, firstStepTests, firstStepCall}
 use Rattle.session.specs.Bare.{normCall}
 use Rattle.session.specs.Runs.{Call, wantsOf, perform}
@@ -93,6 +93,10 @@ tolerating o absolute = record {
 -- its tolerance copied n times, and nothing judged
 unfoldable pub broughtOver : OldSession → Session
 broughtOver o = tolerating o (copied (o .n) (o .absolute))
+
+-- over lent figures: those of the session that it is brought over as, or, where a length does not match, as they were
+unfoldable pub lentBringOver : Bool → Head → List Float → List Float → List Float
+lentBringOver fits k old figures = cond fits (figuresOf (broughtOver (oldSessionOf k old))) figures
 
 -- ---- what was refused before
 

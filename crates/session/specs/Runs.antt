@@ -1,5 +1,4 @@
 -- An opening and a list of calls after it, each on the session that the last one returned. Definitions only.
-use Prim.Native.Nat.{ℕ}
 use mathlib.Core.List.{List, [], _∷_}
 use lib.Ieee.{Float}
 use Rattle.session.specs.declared.Session.{Session}

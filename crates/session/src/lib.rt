@@ -3,27 +3,27 @@
 ghost use mathlib.Core.Path.{_≡_};
 ghost use mathlib.Core.Bool.{true, cond, _&&_};
 ghost use mathlib.Core.List.{List};
-ghost use Prim.Native.Nat.{ℕ, _+_, _-_, _*_, _≤_, _<_};
+ghost use Prim.Native.Nat.{_+_, _-_, _*_, _≤_, _<_};
 ghost use lib.Dec.{ltb, eqb};
 ghost use lib.Ieee.{Float};
-ghost use lib.ListN.{length, take};
+ghost use lib.ListN.{length};
 ghost use Rattle.loops.specs.Loop.{every, stores, _!_};
 ghost use Rattle.evaluation.specs.Evaluation.{allFinite};
-ghost use Rattle.evaluation.specs.Sizes.{places, answersKept, answerRoom};
-ghost use Rattle.methods.specs.Step.{refused, performStep};
+ghost use Rattle.evaluation.specs.Sizes.{places, answersKept};
+ghost use Rattle.methods.specs.Step.{refused};
 ghost use Rattle.methods.specs.Step.{progress as reached};
 ghost use Rattle.float.specs.Arith.{zero+};
 ghost use Rattle.session.specs.Tests.{fault};
-ghost use Rattle.session.specs.Session.{jacobianRoom, clear, usedHistory, usedJacobian, stepClear, wanted, wantedBy, phaseWith, phaseOf, phaseNumber, admits};
-ghost use Rattle.session.specs.Session.{good1, historyOk, good2, good7, positive, tolerancesOk, stepOk, good4, good5, good3, sessionTests, Sound, attemptPlaces};
-ghost use Rattle.session.specs.Session.{isHeld, pointOf, stepped, question, differencing, progress};
-ghost use Rattle.session.specs.Figures.{FIGURES, stateAt, derivativeAt, previousAt, jacobianAt, answersAt, part, sessionOf, headOf, figuresOf};
+ghost use Rattle.session.specs.Session.{jacobianRoom, clear, usedHistory, usedJacobian, stepClear, wanted, phaseWith, phaseOf, phaseNumber, admits};
+ghost use Rattle.session.specs.Session.{good1, historyOk, good2, good7, positive, tolerancesOk, stepOk, good5, sessionTests, Sound, attemptPlaces};
+ghost use Rattle.session.specs.Session.{isHeld, pointOf, question, differencing, progress};
+ghost use Rattle.session.specs.Figures.{FIGURES, answersAt, part, sessionOf, headOf, figuresOf};
 ghost use Rattle.session.specs.Calls.{outcome, tell, refuse, opened, nothing, begun, rested, answered, moved, readyOf, answerOf, shown, arrived, settled};
 ghost use Rattle.session.specs.Calls.{vectorTests, attemptOf, attemptTests, largestTests, beginTests, supplyTests, acceptTests, firstStepTests};
 ghost use Rattle.session.specs.Calls.{openCall, beginCall, supplyCall, acceptCall, dropCall, firstStepCall};
 ghost use Rattle.session.specs.Lent.{arraysFinite, unopened, columnOf, columnAsked, steppedFrom, suppliedFrom, toldBy, refusedBy, restingAt, remains, fills};
 ghost use Rattle.session.specs.Lent.{lentCall, lentOpen, lentAsk, lentFill};
-ghost use Rattle.session.specs.Old.{oldFigures, oldSessionOf, copied, broughtOver};
+ghost use Rattle.session.specs.Old.{oldFigures, oldSessionOf, copied, broughtOver, lentBringOver};
 ghost use Rattle.session.specs.Bare.{bare, exponentialTests, exponentialCall, phiTests, phiCall, normTests, normCall};
 
 mod figures;
@@ -1444,7 +1444,7 @@ impl Head {
     // Fills the figures from those of the old layout; where a length is another, it tells so and writes nothing.
     pub fn bring_over(self, old: &[f64], figures: &mut [f64]) -> bool
         ensures { λ r. ⌜ (r ≡ (eqb (length (now (old .entry))) oldFigures && eqb (length (now (figures .entry))) FIGURES))
-            × (now (figures .exit) ≡ cond r (figuresOf (broughtOver (oldSessionOf self (now (old .entry))))) (now (figures .entry))) ⌝ }
+            × (now (figures .exit) ≡ lentBringOver r self (now (old .entry)) (now (figures .entry))) ⌝ }
     {
         if (old.len() == OLD_FIGURES) & (figures.len() == FIGURES) {
             bring_over_figures(self.n, old, figures);

@@ -1,14 +1,15 @@
 -- `library::vunchrem_bring_over` meets its contract. Assumes nothing.
 use borrow.Author.Needs.{needs}
-use mathlib.Core.Path.{refl, sym, ap, _∙_}
+use mathlib.Core.Path.{refl}
 use borrow.Author.Tests.{eq-eqb, ne-eqb}
+use Rattle.session.specs.Old.{lentBringOver}
 use Rattle.library.specs.Library.{Crossing}
 use Rattle.library.proofs.Brought.{brought}
 use Rattle.library.proofs.vunchrem_bring_over.Statement.{statement}
 use Rattle.library.proofs.vunchrem_bring_over.Tie as tie
 
 pub vunchrem-bring-over-spec : {M : Type 1} → statement M
-unfolding Crossing
+unfolding Crossing lentBringOver
 vunchrem-bring-over-spec =
     tie.close
     (tie.spec

@@ -3,7 +3,7 @@ use borrow.Author.Needs.{needs}
 use native.Mathlib.Omega.{arith}
 use mathlib.Core.Path.{refl, ap, _∙_}
 use Rattle.evaluation.specs.Evaluation.{allFinite}
-use Rattle.session.specs.Session.{attemptPlaces, stepClear, clear, clearAnswers}
+use Rattle.session.specs.Session.{attemptPlaces, clear}
 use Rattle.evaluation.specs.Sizes.{answerRoom}
 use Rattle.session.specs.Figures.{answersAt, sessionOf}
 use Rattle.session.proofs.Parts.{jacobian-slice, answers-slice, jacobian-calm, answers-calm, slice-long}

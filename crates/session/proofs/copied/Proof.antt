@@ -1,7 +1,7 @@
 -- `session::copied` meets its contract. Assumes nothing.
 use Prim.Native.Nat.{_-_, _≤_}
 use native.Mathlib.Omega.{arith}
-use mathlib.Core.Path.{_≡_, _∙_}
+use mathlib.Core.Path.{_≡_}
 use mathlib.Core.Bool.{cond}
 use lib.Dec.{ltb}
 use Rattle.float.specs.Arith.{zero+}

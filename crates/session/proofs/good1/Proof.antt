@@ -1,6 +1,6 @@
 -- `session::good1` meets its contract. Assumes nothing.
 use native.Mathlib.Omega.{arith}
-use mathlib.Core.Path.{refl, ap, _∙_}
+use mathlib.Core.Path.{ap, _∙_}
 use Rattle.evaluation.specs.Evaluation.{allFinite}
 use Rattle.session.specs.Session.{good1, sizeOk, runPlaces}
 use Rattle.session.specs.Figures.{sessionOf}

@@ -1,6 +1,5 @@
 -- `session::open_over` meets its contract. Assumes nothing.
 use borrow.Author.Needs.{needs}
-use mathlib.Core.Path.{sym, _∙_}
 use Rattle.session.specs.Tests.{unless}
 use Rattle.session.specs.Calls.{openCall}
 use Rattle.session.proofs.Tests.{unless-refused}

@@ -1,8 +1,7 @@
 -- `session::put_run` meets its contract. Assumes nothing.
 use borrow.Author.Needs.{needs}
 use native.Mathlib.Omega.{arith}
-use lib.ListN.{set, length-set}
-use Rattle.float.specs.Arith.{zero+}
+use lib.ListN.{length-set}
 use Rattle.session.proofs.Writes.{open-is, head-long}
 use Rattle.session.proofs.put_run.Statement.{statement}
 use Rattle.session.proofs.put_run.Tie as tie

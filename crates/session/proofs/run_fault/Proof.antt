@@ -1,9 +1,7 @@
 -- `session::run_fault` meets its contract. Assumes nothing.
 use borrow.Author.Needs.{needs}
-use mathlib.Core.Path.{refl, sym, ap, _∙_}
-use mathlib.Core.Bool.{_&&_}
+use mathlib.Core.Path.{refl}
 use mathlib.Core.List.{[]}
-use native.Mathlib.Omega.{arith}
 use borrow.Author.Tests.{not-false}
 use Rattle.session.specs.Session.{sizeOk}
 use Rattle.session.proofs.Tests.{stops, holds-on, all-hold}

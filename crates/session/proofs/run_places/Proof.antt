@@ -1,7 +1,6 @@
 -- `session::run_places` meets its contract. Assumes nothing.
 use borrow.Author.Needs.{needs}
 use mathlib.Core.Path.{sym, _∙_}
-use Rattle.session.specs.Session.{usedHistory}
 use Rattle.session.proofs.run_places.Statement.{statement}
 use Rattle.session.proofs.run_places.Tie as tie
 

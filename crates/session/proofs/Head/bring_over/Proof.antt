@@ -3,12 +3,13 @@ use borrow.Author.Needs.{needs}
 use mathlib.Core.Path.{refl, sym}
 use lib.ListN.{length}
 use Rattle.session.specs.Figures.{FIGURES}
-use Rattle.session.specs.Old.{oldFigures}
+use Rattle.session.specs.Old.{oldFigures, lentBringOver}
 use Rattle.session.proofs.Bodies.{two-long}
 use Rattle.session.proofs.Head.bring_over.Statement.{statement}
 use Rattle.session.proofs.Head.bring_over.Tie as tie
 
 pub bring-over-spec : {M : Type 1} → statement M
+unfolding lentBringOver
 bring-over-spec =
     tie.close
     (tie.spec
