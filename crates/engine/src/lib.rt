@@ -118,6 +118,14 @@ pub fn jacobian_into(state: &[f64], f0: &[f64], answers: &[f64], n: usize, out: 
     }
 }
 
+// Component i's own tolerance.
+fn own(absolute: &[f64], i: usize) -> f64
+    requires { ⌜ i < length (now absolute) ⌝ }
+    ensures { λ r. ⌜ r ≡ now (absolute .entry) ! i ⌝ }
+{
+    absolute[i]
+}
+
 // An error entry over its tolerance.
 fn ratio(relative: f64, absolute: f64, u: f64, v: f64, e: f64) -> f64
     ensures { λ r. ⌜ r ≡ e ⊘ (absolute ⊕ relative ⊗ larger (abs u) (abs v)) ⌝ }
@@ -140,9 +148,10 @@ pub fn scaled_error_norm(
     requires { ⌜ (length (now absolute) ≡ places) × (length (now state) ≡ places) × (length (now candidate) ≡ places) × (length (now error) ≡ places) ⌝ }
     ensures { λ r. ⌜ r ≡ errorNorm n «relative» (now (absolute .entry)) (now (state .entry)) (now (candidate .entry)) (now (error .entry)) ⌝ }
 {
-    let mut sum = float::powi2(ratio(relative, absolute[0], state[0], candidate[0], error[0]));
+    let mut sum = float::powi2(ratio(relative, own(absolute, 0), state[0], candidate[0], error[0]));
     for i in 1..n {
-        sum = sum + float::powi2(ratio(relative, absolute[i], state[i], candidate[i], error[i]));
+        let r = ratio(relative, own(absolute, i), state[i], candidate[i], error[i]);
+        sum = sum + float::powi2(r);
     }
     float::sqrt(sum / (n as f64))
 }
@@ -192,7 +201,8 @@ pub fn estimate_initial_step(
 {
     let mut scale = 0.0;
     for i in 0..n {
-        scale = float::larger(scale, rate(relative, absolute[i], state[i], derivative[i]));
+        let r = rate(relative, own(absolute, i), state[i], derivative[i]);
+        scale = float::larger(scale, r);
     }
     clamp(estimate(scale), largest)
 }

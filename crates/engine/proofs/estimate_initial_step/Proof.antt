@@ -23,8 +23,7 @@ estimate-initial-step-spec =
     Inv-loop
     μ-loop
     (λ c. (omega arith, most-none _ _))
-    (λ c. omega arith)
-    (λ c. omega arith)
+    (λ c κs. omega arith)
     (λ c. omega arith)
     (λ c. omega arith)
     (λ c. omega arith)
@@ -33,7 +32,9 @@ estimate-initial-step-spec =
     (λ c κs. tt)
     (λ c. omega arith)
     (λ c. omega arith)
-    (λ c. (omega arith, most-step _ _ _ _ _ _ (c .before .before .before .before .before .before .loop .inv .1) (c .before .rate .ensures) (c .larger .ensures)))
+    (λ c.
+    let own = c .before .before .before .before in
+    (omega arith, most-step _ _ _ _ _ _ (own .before .before .loop .inv .1) (rw (c .before .rate .ensures, own .own .ensures)) (c .larger .ensures)))
     (λ c κs. tt)
     (λ c κs. tt)
     (λ c.

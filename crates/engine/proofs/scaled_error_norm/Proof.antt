@@ -23,29 +23,33 @@ scaled-error-norm-spec =
     (tie.spec
     Inv-loop
     μ-loop
+    (λ c κs. omega arith)
+    (λ c. omega arith)
+    (λ c. omega arith)
+    (λ c. omega arith)
+    (λ c κs. tt)
+    (λ c κs. tt)
+    (λ c.
+    let own = c .before .before .before .before .before in
+    (omega arith, omega arith, sum-first _ _ (rw (c .powi2 .ensures, c .before .ratio .ensures, own .own .ensures))))
+    (λ c κs. omega arith)
+    (λ c. omega arith)
+    (λ c. omega arith)
     (λ c. omega arith)
     (λ c. omega arith)
     (λ c. omega arith)
     (λ c. omega arith)
     (λ c κs. tt)
     (λ c κs. tt)
-    (λ c. (omega arith, omega arith, sum-first _ _ (rw (c .powi2 .ensures, c .before .ratio .ensures))))
     (λ c. omega arith)
     (λ c. omega arith)
-    (λ c. omega arith)
-    (λ c. omega arith)
-    (λ c. omega arith)
-    (λ c. omega arith)
-    (λ c. omega arith)
-    (λ c. omega arith)
-    (λ c κs. tt)
-    (λ c κs. tt)
-    (λ c. omega arith)
-    (λ c. omega arith)
-    (λ c. (omega arith, omega arith, sum-step _ _ _ _ (c .before .before .before .before .before .before .before .loop .inv .2) (rw (c .powi22 .ensures, c .before .ratio2 .ensures)) (omega arith)))
+    (λ c.
+    let own = c .before .before .before .before .before in
+    let sum = own .before .before .loop .inv .2 in
+    (omega arith, omega arith, sum-step _ _ _ _ sum (rw (c .powi22 .ensures, c .before .ratio2 .ensures, own .own2 .ensures)) (omega arith)))
     (λ c. float-small _ (omega arith))
     (λ c κs. tt)
     (λ c.
-    let c3 = c .before .before .before in
-    let c6 = c3 .before .before .before in
-    rw (c .sqrt .ensures, sum-end _ _ (c6 .before .before .before .before .before .before .before .before .args .n) _ (c3 .loop .inv .2) (omega arith))))
+    let at-end = c .before .before .before in
+    let n = at-end .before .before .before .before .before .before .before .before .before .before .before .args .n in
+    rw (c .sqrt .ensures, sum-end _ _ n _ (at-end .loop .inv .2) (omega arith))))
