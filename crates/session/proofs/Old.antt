@@ -4,7 +4,7 @@ use native.Mathlib.Nat.{zero-add, add-assoc}
 use native.Mathlib.Decide.{decLt}
 use native.Mathlib.Omega.{arith}
 use mathlib.Core.Path.{_≡_, refl, sym, ap, _∙_}
-use mathlib.Core.Bool.{Bool, true, false, cond, _&&_, _||_, true≢false}
+use mathlib.Core.Bool.{Bool, true, false, cond, _&&_, _||_}
 use mathlib.Core.List.{List, [], _++_}
 use lib.Dec.{ltb}
 use lib.Ieee.{Float, nan}
@@ -12,7 +12,7 @@ use lib.ListN.{length, take, drop}
 use lib.Seq.{getD-take, length-take-le}
 use borrow.Author.Tests.{lt-ltb, le-ltb}
 use Rattle.loops.specs.Loop.{every, stores, _!_}
-use Rattle.loops.proofs.Loops.{every-at, every-of, length-tab, tab-at}
+use Rattle.loops.proofs.Loops.{every-of, length-tab, tab-at}
 use Rattle.loops.proofs.Stores.{is-tab, stores-in, length-stores}
 use Rattle.float.specs.Arith.{zero+, plusZero}
 use Rattle.evaluation.specs.Sizes.{places, answerRoom}
@@ -36,6 +36,7 @@ use Rattle.session.specs.Bare.{normTests, normCall}
 use Rattle.session.specs.Old.{oldFigures, oldStateAt, oldDerivativeAt, oldPreviousAt, oldJacobianAt, oldAnswersAt, oldSessionOf}
 use Rattle.session.specs.Old.{copied, tolerating, broughtOver, bothPositive, oldRunPlaces, oldTests, oldNormTests, oldNormCall, AsBefore}
 use Rattle.session.proofs.Clear.{zero-plus}
+use Rattle.session.proofs.Tolerances.{every-fails}
 use Rattle.session.proofs.Laws.{size-both, session-fails}
 use Rattle.session.proofs.Tests.{unless-refused}
 use Rattle.session.proofs.Parts.{length-part, part-at, is-part, slice-part, read-before, part-before, part-put}
@@ -77,11 +78,7 @@ module _ (n : ℕ) (one : Float) where
 -- a test that n items share
 every-same : (n : ℕ) (f : ℕ → Bool) (b : Bool) → 1 ≤ n → ((i : ℕ) → i < n → f i ≡ b) → every n f ≡ b
 every-same n f true some h = every-of n f h
-every-same n f false some h = go (every n f) refl
-  where
-    go : (e : Bool) → every n f ≡ e → every n f ≡ false
-    go true q = absurd (true≢false (sym (every-at n f q 0 some) ∙ h 0 some))
-    go false q = q
+every-same n f false some h = every-fails n f 0 some (h 0 some)
 
 tolerances-copied : (n : ℕ) (relative one : Float) → 1 ≤ n → n ≤ places → tolerancesOk n relative (copied n one) ≡ bothPositive relative one
 unfolding tolerancesOk bothPositive

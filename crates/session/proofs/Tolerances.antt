@@ -17,7 +17,7 @@ use Rattle.session.specs.Session.{clear, sizeOk, runPlaces, good1, posit
 use Rattle.session.specs.Claims.{Tolerances}
 
 -- a test that one of n items fails
-every-fails : (n : ℕ) (f : ℕ → Bool) (i : ℕ) → i < n → f i ≡ false → every n f ≡ false
+pub every-fails : (n : ℕ) (f : ℕ → Bool) (i : ℕ) → i < n → f i ≡ false → every n f ≡ false
 every-fails n f i l h = go (every n f) refl
   where
     go : (b : Bool) → every n f ≡ b → every n f ≡ false

@@ -338,6 +338,11 @@ module _ (k : Head) (x : List Float) (long : length x ≡ FIGURES) (y : List Flo
       (behind-answers (k .count) (k .n) (part x answersAt answerRoom) (passed-good wants (sessionOf k x) passed .answers) (places * k .count + j)
       (omega (arith, length-part x answersAt answerRoom)) (omega arith)))
 
+-- a vector that is stored whole, over figures that go by another name
+stored-whole : (v : List Float) (at : ℕ) {x y z : List Float} → length v ≡ places → z ≡ stores (λ i _. v ! i) at (length v) y → y ≡ x
+    → z ≡ stores (λ i _. v ! i) at places x
+stored-whole v at {x} {y} l e f = e ∙ ap (λ (n : ℕ). stores (λ i _. v ! i) at n y) l ∙ ap (stores (λ i _. v ! i) at places) f
+
 -- ---- a time, a state and a derivative, at rest
 
 module _ (k : Head) (x : List Float) (long : length x ≡ FIGURES) (r : Session) (e : sessionOf k x ≡ rested r) (time : Float) (u f g : List Float)
@@ -382,10 +387,7 @@ module _ (k : Head) (x : List Float) (long : length x ≡ FIGURES) (r : Session)
   now-derivative = part-put f derivativeAt places _ places-f (omega (arith, width-2))
 
   stored : {y z : List Float} → y ≡ stores (λ i _. u ! i) stateAt (length u) (set x timeAt time) → z ≡ stores (λ i _. f ! i) derivativeAt (length f) y → z ≡ movedFigures
-  stored {y} a b =
-      b
-      ∙ ap (λ (n : ℕ). stores (λ i _. f ! i) derivativeAt n y) places-f
-      ∙ ap (stores (λ i _. f ! i) derivativeAt places) (a ∙ ap (λ (n : ℕ). stores (λ i _. u ! i) stateAt n (set x timeAt time)) places-u)
+  stored a b = stored-whole f derivativeAt places-f b (stored-whole u stateAt places-u a refl)
 
   at-moved : eqb (r .scheme) etd2Number ≡ false → sessionOf k movedFigures ≡ moved r time u f g
   unfolding moved opened idle fresh rested sessionOf
@@ -434,14 +436,7 @@ module _ (k : Head) (x : List Float) (long : length x ≡ FIGURES) (r : Session)
 
   pub move-etd2 : eqb (r .scheme) etd2Number ≡ true → {y z w : List Float} → y ≡ stores (λ i _. u ! i) stateAt (length u) (set x timeAt time)
       → z ≡ stores (λ i _. f ! i) derivativeAt (length f) y → w ≡ stores (λ i _. g ! i) previousAt (length g) z → sessionOf remembering w ≡ moved r time u f g
-  move-etd2 same {y} {z} {w} a b c =
-      ap (sessionOf remembering) (c ∙ ap (λ (n : ℕ). stores (λ i _. g ! i) previousAt n z) places-g ∙ ap (stores (λ i _. g ! i) previousAt places) (stored a b))
-      ∙ at-etd2 same
-
--- a vector that is stored whole, over figures that go by another name
-stored-whole : (v : List Float) (at : ℕ) {x y z : List Float} → length v ≡ places → z ≡ stores (λ i _. v ! i) at (length v) y → y ≡ x
-    → z ≡ stores (λ i _. v ! i) at places x
-stored-whole v at {x} {y} l e f = e ∙ ap (λ (n : ℕ). stores (λ i _. v ! i) at n y) l ∙ ap (stores (λ i _. v ! i) at places) f
+  move-etd2 same a b c = ap (sessionOf remembering) (stored-whole g previousAt places-g c (stored a b)) ∙ at-etd2 same
 
 -- ---- a run that is opened
 
