@@ -5,7 +5,8 @@ use mathlib.Core.Logic.{inl, inr}
 use Prim.Native.Nat.{ℕ, zero, suc, _+_, _*_, _^_, _≤_, _<_, zero-le}
 use native.Mathlib.Nat.{le-trans, le-refl, le-suc, eq-or-lt-of-le, not-le-of-lt, zero-lt-suc, mul-comm, mul-assoc, mul-left-comm, mul-right-comm, mul-le-mul-right, le-of-suc-le-suc}
 use native.Mathlib.Nat.{le-of-mul-le-mul-right, le-div-iff-mul-le, div-mul-le-self}
-use mathlib.Core.Bool.{true, false, _&&_, true≢false, false≢true}
+use mathlib.Core.Bool.{Bool, true, false, _&&_, true≢false, false≢true}
+use native.Mathlib.Omega.{arith}
 use lib.Dec.{T, leb→le}
 use lib.Arith.{digits-lt}
 use lib.Count.{trailingZeros}
@@ -17,12 +18,13 @@ use Rattle.loops.proofs.Loops.{every-at}
 use Rattle.loops.specs.Loop.{iter, every, from, tab, mat}
 use Rattle.float.specs.Arith.{_⊘_, zero+, limit, finite, abs, larger, sumOf, most}
 use Rattle.float.proofs.Total.{total}
-use Rattle.matrix.specs.Matrix.{at, identity, matMul, divAll, addAll, maxAbs, rowSum, norm, admitted, enough, least, squarings, power, scaled, nextTerm, small, series, taylor, exponential}
-use Rattle.matrix.specs.Claims.{Admitted, StopsAt15, LimitUnmet, Reaches15, LeastScale, Scales, TopRow}
+use Rattle.matrix.specs.Matrix.{at, identity, matMul, divAll, addAll, maxAbs, rowSum, norm, admitted, enough, least, squarings, power, scaled}
+use Rattle.matrix.specs.Matrix.{nextTerm, termAt, small, Series, series, taylor, squared, exponential}
+use Rattle.matrix.specs.Claims.{Admitted, StopsAt15, AtMost47, termsAdded, CountsMade, LimitUnmet, Reaches15, LeastScale, Scales, TopRow}
 use Rattle.matrix.proofs.Powers.{norm-limit, squarings-least, squarings-enough, squarings-room}
 use Rattle.matrix.proofs.RowSums.{On64, mag64, unit64}
 use Rattle.matrix.proofs.Terms.{Rows, quotient, total-ap}
-use Rattle.matrix.proofs.Stop.{Pos64, larger-pos, zero-pos, fifteen}
+use Rattle.matrix.proofs.Stop.{Pos64, larger-pos, zero-pos, fifteen, with, stop-here, go-on}
 use Rattle.matrix.proofs.Scaling.{β64, abs-sum, scaled-row}
 
 -- ---- 2 ^ s is at least twice the norm, in units
@@ -114,6 +116,44 @@ limit-unmet m n ok = by-15 m n ok .1
 pub least-scale : LeastScale
 unfolding exponential
 least-scale m n ok = (squarings-room (norm m n), squarings-enough (norm m n) (norm-limit m n (ok .rows)), λ t h. squarings-least (norm m n) t h)
+
+pub at-most-47 : AtMost47
+at-most-47 m n ok =
+    let t = stops-at-15 m n ok in
+    let s = least-scale m n ok .0 in
+    (t, s, omega (arith, t, s))
+
+-- one term more
+added-step : (a : List Float) (n k : ℕ) → with a n k (termsAdded a n k) ≡ termsAdded a n (suc k)
+unfolding termsAdded iter
+added-step a n k = refl
+
+-- where the series ends before its room does, it has added its last term and all before it
+added-all : (a : List Float) (n d k : ℕ) (r : List Float) → r ≡ termsAdded a n k → series d a n (termAt a n k) r (suc k) .terms ≤ k + d
+    → series d a n (termAt a n k) r (suc k) .sum ≡ termsAdded a n (series d a n (termAt a n k) r (suc k) .terms)
+added-all a n zero k r e h = let l : suc k ≤ k + 0 = unfold series in h in absurd (omega arith)
+added-all a n (suc d) k r e h = go (small (termAt a n (suc k)) (with a n k r)) refl (added-all a n d (suc k) (with a n k r))
+  where
+    next : with a n k r ≡ termsAdded a n (suc k)
+    next = rw e (added-step a n k)
+
+    rest : Series
+    rest = series d a n (termAt a n (suc k)) (with a n k r) (suc (suc k))
+
+    go : (c : Bool) → small (termAt a n (suc k)) (with a n k r) ≡ c
+        → (with a n k r ≡ termsAdded a n (suc k) → rest .terms ≤ suc k + d → rest .sum ≡ termsAdded a n (rest .terms))
+        → series (suc d) a n (termAt a n k) r (suc k) .sum ≡ termsAdded a n (series (suc d) a n (termAt a n k) r (suc k) .terms)
+    go true t ih = rw (stop-here d a n k r t) next
+    go false t ih =
+        let l : rest .terms ≤ k + suc d = rw (go-on d a n k r t) at h in
+        rw (go-on d a n k r t) (ih next (omega (arith, l)))
+
+pub counts-made : CountsMade
+unfolding exponential taylor
+counts-made m n ok =
+    let a = scaled m (squarings (norm m n)) in
+    let few : series 128 a n (termAt a n 0) (identity n) 1 .terms ≤ 0 + 128 = unfold termAt in omega (arith, stops-at-15 m n ok) in
+    ap (λ z. squared (squarings (norm m n)) z n) (unfold termAt in added-all a n 128 0 (identity n) (unfold termsAdded iter in refl) few)
 
 -- ---- by computing
 pub reaches-15 : Reaches15

@@ -14,6 +14,10 @@ use Rattle.matrix.specs.Calls.{Ready}
 pub room : (n w : ℕ) → n ≤ w → length (take (n * n) (replicate (w * w) zero+)) ≡ n * n
 room n w h = length-take-le (n * n) (replicate (w * w) zero+) (rw length-replicate (mul-le-mul h h))
 
+-- what is ready is ready in any class that holds it
+pub in-class : {m o : List Float} {n c : ℕ} {d : Float} (w : ℕ) → Ready 20 m o n c d → n ≤ w → Ready w m o n c d
+in-class w r h = record { size = h; places = r .places; room = r .room; divides = r .divides; stops = r .stops }
+
 -- a class of room, of sizes up to w
 module _ {w : ℕ} {m o : List Float} {n c : ℕ} {d : Float} (r : Ready w m o n c d) where
   pub class-fits : n * n ≤ w * w

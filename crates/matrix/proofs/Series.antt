@@ -126,8 +126,8 @@ module _ {w : ℕ} {m a o : List Float} {n c : ℕ} {d : Float} (r : Ready w m o
   pub few-terms : taylor a n .terms ≤ 15
   few-terms = rw scaled-is (r .stops)
 
-pub exp-even : (m a x y : List Float) (c n t : ℕ) → a ≡ scaled m c → Summed a n x t → c % 2 ≡ 0 → y ≡ squared (2 * (c / 2)) x n → Worked m n c a y
-exp-even m a x y c n t e u h d = record { divided = e; output = rw (← e, ← u .whole) (even-end c n x y h d) }
+pub exp-even : (m a x y : List Float) (c n t : ℕ) → a ≡ scaled m c → Summed a n x t → c % 2 ≡ 0 → y ≡ squared (2 * (c / 2)) x n → Worked m n c a y t
+exp-even m a x y c n t e u h d = record { divided = e; output = rw (← e, ← u .whole) (even-end c n x y h d); number = rw (← e) (u .number) }
 
-pub exp-odd : (m a x y z : List Float) (c n t : ℕ) → a ≡ scaled m c → Summed a n x t → (c % 2 ≡ 0 → ⊥) → y ≡ matMul x x n → z ≡ squared (2 * (c / 2)) y n → Worked m n c a z
-exp-odd m a x y z c n t e u h v d = record { divided = e; output = rw (← e, ← u .whole) (odd-end c n x y z h v d) }
+pub exp-odd : (m a x y z : List Float) (c n t : ℕ) → a ≡ scaled m c → Summed a n x t → (c % 2 ≡ 0 → ⊥) → y ≡ matMul x x n → z ≡ squared (2 * (c / 2)) y n → Worked m n c a z t
+exp-odd m a x y z c n t e u h v d = record { divided = e; output = rw (← e, ← u .whole) (odd-end c n x y z h v d); number = rw (← e) (u .number) }

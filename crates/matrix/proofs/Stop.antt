@@ -18,13 +18,13 @@ use lib.Ieee.Positive.{num, den, den-pos, positive, above, above-of-le, own-valu
 use Rattle.loops.proofs.Places.{size-some}
 use Rattle.loops.specs.Loop.{_!_}
 use Rattle.float.specs.Arith.{_⊗_, zero+, one, epsilon, abs, larger, most}
-use Rattle.matrix.specs.Matrix.{at, maxAbs, small, identity, nextTerm, addAll, series, taylor}
+use Rattle.matrix.specs.Matrix.{at, maxAbs, small, identity, nextTerm, addAll, series, taylor, termAt}
 use Rattle.float.proofs.Mag.{mag}
 use Rattle.float.proofs.Total.{entry-le}
 use lib.Ieee.Bits.{is-true}
 use Rattle.matrix.proofs.Series.{series-stop, series-go}
 use Rattle.matrix.proofs.RowSums.{On64, mag64, unit64, zero-mag}
-use Rattle.matrix.proofs.Terms.{Rows, bd, bd-15, termAt, term-rows, term-length}
+use Rattle.matrix.proofs.Terms.{Rows, bd, bd-15, term-rows, term-length}
 
 -- ---- values that are not negative: finite, and a whole number of units
 abbrev pub Pos64 : Float → Type 0
@@ -192,14 +192,14 @@ unfolding termAt
 next-is b n k = refl
 
 -- the sum with one term more, and the test at which the series stops or goes on
-abbrev with : List Float → ℕ → ℕ → List Float → List Float
+abbrev pub with : List Float → ℕ → ℕ → List Float → List Float
 with b n k r = addAll r (termAt b n (suc k))
 
-stop-here : (d : ℕ) (b : List Float) (n k : ℕ) (r : List Float) → small (termAt b n (suc k)) (with b n k r) ≡ true
+pub stop-here : (d : ℕ) (b : List Float) (n k : ℕ) (r : List Float) → small (termAt b n (suc k)) (with b n k r) ≡ true
     → series (suc d) b n (termAt b n k) r (suc k) ≡ record { sum = with b n k r; terms = suc k }
 stop-here d b n k r h = series-stop d b n (termAt b n k) r (suc k) (rw next-is h) ∙ rw next-is
 
-go-on : (d : ℕ) (b : List Float) (n k : ℕ) (r : List Float) → small (termAt b n (suc k)) (with b n k r) ≡ false
+pub go-on : (d : ℕ) (b : List Float) (n k : ℕ) (r : List Float) → small (termAt b n (suc k)) (with b n k r) ≡ false
     → series (suc d) b n (termAt b n k) r (suc k) ≡ series d b n (termAt b n (suc k)) (with b n k r) (suc (suc k))
 go-on d b n k r h = series-go d b n (termAt b n k) r (suc k) (rw next-is h) ∙ rw next-is
 

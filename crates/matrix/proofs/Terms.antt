@@ -16,7 +16,7 @@ use Rattle.float.specs.Arith.{_⊘_, zero+, one}
 use Rattle.loops.specs.Loop.{mat, _!_}
 use Rattle.loops.proofs.Loops.{length-tab, tab-at}
 use Rattle.loops.proofs.Places.{mat-at, length-mat, row-fits}
-use Rattle.matrix.specs.Matrix.{at, identity, matMul, divAll, nextTerm}
+use Rattle.matrix.specs.Matrix.{at, identity, matMul, divAll, nextTerm, termAt}
 use Rattle.float.proofs.Mag.{equals-on, equals-mag}
 use Rattle.float.proofs.Total.{total, total-mono}
 use Rattle.matrix.proofs.RowSums.{dot, On64, mag64, unit64, zero-on, zero-mag, row-on, row-shrinks}
@@ -138,11 +138,6 @@ step n k R β b t n20 k16 R-le β-le rb rt i hi =
   where
     pos16 : (a : ℕ) → 0 < 16 * suc a
     pos16 a = omega arith
-
--- the k-th term, wherever the series stops
-unfoldable pub termAt : List Float → ℕ → ℕ → List Float
-termAt b n zero = identity n
-termAt b n (suc k) = nextTerm (termAt b n k) b n (suc k)
 
 pub term-rows : (n β : ℕ) (b : List Float) → n ≤ 20 → β * 1024 ≤ unit64 * 530 → Rows n b β → (k : ℕ) → k ≤ 16 → Rows n (termAt b n k) (bd k)
 unfolding termAt bd

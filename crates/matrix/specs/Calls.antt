@@ -7,7 +7,8 @@ use lib.Ieee.{Float}
 use lib.ListN.{length}
 use Rattle.loops.specs.Loop.{iter, stores}
 use Rattle.float.specs.Arith.{_⊕_, _⊗_, zero+}
-use Rattle.matrix.specs.Matrix.{at, divAll, addAll, norm, admitted, squarings, power, nextTerm, small, taylor, scaled, squared, exponential}
+use Rattle.matrix.specs.declared.Reach.{Reach}
+use Rattle.matrix.specs.Matrix.{at, divAll, addAll, norm, admitted, squarings, power, nextTerm, small, taylor, scaled, squared, exponential, Few, reach}
 
 -- the first k products of row i and column j, summed from +0.0
 unfoldable pub products : ℕ → List Float → List Float → ℕ → ℕ → ℕ → Float
@@ -55,13 +56,15 @@ pub record Ready (w : ℕ) (m out : List Float) (n count : ℕ) (divisor : Float
   pub divides : divisor ≡ power count
   pub stops : taylor (scaled m count) n .terms ≤ 15
 
--- m divided is left in its place, and its series squared in the output
-pub record Worked (m : List Float) (n count : ℕ) (m' after : List Float) : Type 0 where
+-- m divided is left in its place, and its series squared in the output; the number of its terms is told
+pub record Worked (m : List Float) (n count : ℕ) (m' after : List Float) (terms : ℕ) : Type 0 where
   pub divided : m' ≡ scaled m count
   pub output : after ≡ squared count (taylor (scaled m count) n .sum) n
+  pub number : terms ≡ taylor (scaled m count) n .terms
 
--- matrix_exp: whether m is admitted; m is then left divided, and the output is the exponential; otherwise both are as they were
-pub record Filled (m : List Float) (n : ℕ) (m' before after : List Float) (r : Bool) : Type 0 where
-  pub test : r ≡ admitted m n
+-- matrix_exp: how far it goes, and no further than is said; where m is admitted, m is left divided, and the output is the exponential; otherwise both are as they were
+pub record Filled (m : List Float) (n : ℕ) (m' before after : List Float) (r : Reach) : Type 0 where
+  pub told : r ≡ reach m n
+  pub few : Few (r .terms) (r .squarings)
   pub work : m' ≡ cond (admitted m n) (scaled m (squarings (norm m n))) m
   pub output : after ≡ cond (admitted m n) (exponential m n .entries) before

@@ -1,14 +1,14 @@
 -- The claims on the exponential. Definitions only: proofs/Claims.antt proves each.
-use Prim.Native.Nat.{ℕ, _*_, _≤_, _<_}
+use Prim.Native.Nat.{ℕ, suc, _*_, _≤_, _<_}
 use mathlib.Core.Path.{_≡_}
 use mathlib.Core.Bool.{true, false}
 use mathlib.Core.List.{List, [], _∷_, map}
 use lib.Dec.{T}
 use lib.Ieee.{Float, binary64, fits, ofBits}
 use lib.ListN.{length}
-use Rattle.loops.specs.Loop.{_!_}
+use Rattle.loops.specs.Loop.{iter, _!_}
 use Rattle.float.specs.Arith.{half}
-use Rattle.matrix.specs.Matrix.{identity, norm, admitted, enough, squarings, scaled, series, taylor, exponential}
+use Rattle.matrix.specs.Matrix.{identity, addAll, norm, admitted, enough, squarings, scaled, termAt, series, taylor, squared, exponential, Few}
 
 -- a matrix of doubles, of size up to 20, whose row sums are finite and at most 2 ^ 31
 pub record Admitted (m : List Float) (n : ℕ) : Type 0 where
@@ -20,6 +20,19 @@ pub record Admitted (m : List Float) (n : ℕ) : Type 0 where
 -- the series stops at term 15 or sooner, so the Rust's limit of 128 is never met
 abbrev pub StopsAt15 : Type 0
 StopsAt15 = (m : List Float) (n : ℕ) → Admitted m n → exponential m n .terms ≤ 15
+
+-- s is at most 32 (`LeastScale`), so terms and squarings are at most 47 together
+abbrev pub AtMost47 : Type 0
+AtMost47 = (m : List Float) (n : ℕ) → Admitted m n → Few (exponential m n .terms) (exponential m n .squarings)
+
+-- the identity and the first k terms, added in turn
+unfoldable pub termsAdded : List Float → ℕ → ℕ → List Float
+termsAdded a n k = iter k (λ i sum. addAll sum (termAt a n (suc i))) (identity n)
+
+-- the counts are of what is done: so many terms are added, the identity being none, and their sum is squared so many times
+abbrev pub CountsMade : Type 0
+CountsMade = (m : List Float) (n : ℕ) → Admitted m n
+    → let s = exponential m n .squarings in exponential m n .entries ≡ squared s (termsAdded (scaled m s) n (exponential m n .terms)) n
 
 -- with a limit of 15 the series is the same
 abbrev pub LimitUnmet : Type 0

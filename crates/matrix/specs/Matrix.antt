@@ -1,5 +1,5 @@
 -- matrix.rs: the exponential of a matrix by scaling, Taylor's series and squaring, in document 01's five steps. A matrix of size n is its n * n entries, row by row. Definitions only.
-use Prim.Native.Nat.{ℕ, zero, suc, _+_, _*_, _^_}
+use Prim.Native.Nat.{ℕ, zero, suc, _+_, _*_, _^_, _≤_}
 use mathlib.Core.Bool.{Bool, true, false, cond, _&&_}
 use mathlib.Core.List.{List}
 use lib.Dec.{eqb, leb}
@@ -8,6 +8,7 @@ use lib.Ieee.{Float, nan, inf, fin, binary64, le, ofInt, up, down}
 use lib.ListN.{length}
 use Rattle.loops.specs.Loop.{iter, every, tab, mat, _!_}
 use Rattle.float.specs.Arith.{_⊕_, _⊗_, _⊘_, zero+, one, epsilon, limit, finite, abs, sumOf, most}
+use Rattle.matrix.specs.declared.Reach.{Reach}
 
 -- the entry in row i and column j
 abbrev pub at : List Float → ℕ → ℕ → ℕ → Float
@@ -79,6 +80,11 @@ scaled m s = divAll m (power s)
 unfoldable pub nextTerm : List Float → List Float → ℕ → ℕ → List Float
 nextTerm t a n k = divAll (matMul t a n) (ofInt binary64 (pos k))
 
+-- the k-th term from the identity on, wherever the series stops
+unfoldable pub termAt : List Float → ℕ → ℕ → List Float
+termAt a n zero = identity n
+termAt a n (suc k) = nextTerm (termAt a n k) a n (suc k)
+
 -- ---- step 4: the sum, and where it stops
 
 -- the term is at most 2 ^ -52 times the larger of 1 and the sum's largest magnitude
@@ -122,3 +128,11 @@ exponential m n =
     let s = squarings (norm m n) in
     let t = taylor (scaled m s) n in
     record { entries = squared s (t .sum) n; terms = t .terms; squarings = s }
+
+-- what is told of it at the most: 15 terms, 32 squarings, 47 together
+abbrev pub Few : ℕ → ℕ → Type 0
+Few terms squarings = (terms ≤ 15) × (squarings ≤ 32) × (terms + squarings ≤ 47)
+
+-- what is told of it: whether m is admitted, and if so its terms and squarings
+unfoldable pub reach : List Float → ℕ → Reach
+reach m n = cond (admitted m n) (record { ok = true; terms = exponential m n .terms; squarings = exponential m n .squarings }) (record { ok = false; terms = 0; squarings = 0 })

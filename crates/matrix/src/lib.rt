@@ -313,7 +313,8 @@ fn square(m: &mut [f64], other: &mut [f64], pairs: u32, n: usize)
 
 // ---- the five together
 
-// The exponential over lent room. The sum is built where an even number of squarings ends in out.
+// The exponential over lent room, and the number of its terms. The sum is built where an even number of
+// squarings ends in out.
 fn exp_into(
     m: &mut [f64],
     out: &mut [f64],
@@ -322,26 +323,27 @@ fn exp_into(
     count: u32,
     divisor: f64,
     n: usize,
-)
+) -> u32
     requires { ⌜ Ready 20 (now m) (now out) n count divisor ⌝ }
     requires { ⌜ (length (now even) ≡ n * n) × (length (now odd) ≡ n * n) ⌝ }
-    ensures { λ _. ⌜ Worked (now (m .entry)) n count (now (m .exit)) (now (out .exit)) ⌝ }
+    ensures { λ r. ⌜ Worked (now (m .entry)) n count (now (m .exit)) (now (out .exit)) r ⌝ }
 {
     div_all(m, divisor);
     if count % 2 == 0 {
-        taylor(m, out, even, odd, n);
+        let terms = taylor(m, out, even, odd, n);
         square(out, odd, count / 2, n);
-    } else {
-        taylor(m, odd, even, out, n);
-        mat_mul(odd, odd, out, n);
-        square(out, odd, count / 2, n);
+        return terms;
     }
+    let terms = taylor(m, odd, even, out, n);
+    mat_mul(odd, odd, out, n);
+    square(out, odd, count / 2, n);
+    terms
 }
 
 // Room for sizes up to 4.
-fn exp_small(m: &mut [f64], out: &mut [f64], count: u32, divisor: f64, n: usize)
+fn exp_small(m: &mut [f64], out: &mut [f64], count: u32, divisor: f64, n: usize) -> u32
     requires { ⌜ Ready 4 (now m) (now out) n count divisor ⌝ }
-    ensures { λ _. ⌜ Worked (now (m .entry)) n count (now (m .exit)) (now (out .exit)) ⌝ }
+    ensures { λ r. ⌜ Worked (now (m .entry)) n count (now (m .exit)) (now (out .exit)) r ⌝ }
 {
     let size = n * n;
     let mut even = [0.0; 16];
@@ -354,13 +356,13 @@ fn exp_small(m: &mut [f64], out: &mut [f64], count: u32, divisor: f64, n: usize)
         count,
         divisor,
         n,
-    );
+    )
 }
 
 // Room for sizes up to 8.
-fn exp_medium(m: &mut [f64], out: &mut [f64], count: u32, divisor: f64, n: usize)
+fn exp_medium(m: &mut [f64], out: &mut [f64], count: u32, divisor: f64, n: usize) -> u32
     requires { ⌜ Ready 8 (now m) (now out) n count divisor ⌝ }
-    ensures { λ _. ⌜ Worked (now (m .entry)) n count (now (m .exit)) (now (out .exit)) ⌝ }
+    ensures { λ r. ⌜ Worked (now (m .entry)) n count (now (m .exit)) (now (out .exit)) r ⌝ }
 {
     let size = n * n;
     let mut even = [0.0; 64];
@@ -373,13 +375,13 @@ fn exp_medium(m: &mut [f64], out: &mut [f64], count: u32, divisor: f64, n: usize
         count,
         divisor,
         n,
-    );
+    )
 }
 
 // Room for sizes up to 12.
-fn exp_wide(m: &mut [f64], out: &mut [f64], count: u32, divisor: f64, n: usize)
+fn exp_wide(m: &mut [f64], out: &mut [f64], count: u32, divisor: f64, n: usize) -> u32
     requires { ⌜ Ready 12 (now m) (now out) n count divisor ⌝ }
-    ensures { λ _. ⌜ Worked (now (m .entry)) n count (now (m .exit)) (now (out .exit)) ⌝ }
+    ensures { λ r. ⌜ Worked (now (m .entry)) n count (now (m .exit)) (now (out .exit)) r ⌝ }
 {
     let size = n * n;
     let mut even = [0.0; 144];
@@ -392,13 +394,13 @@ fn exp_wide(m: &mut [f64], out: &mut [f64], count: u32, divisor: f64, n: usize)
         count,
         divisor,
         n,
-    );
+    )
 }
 
 // Room for sizes up to 20.
-fn exp_large(m: &mut [f64], out: &mut [f64], count: u32, divisor: f64, n: usize)
+fn exp_large(m: &mut [f64], out: &mut [f64], count: u32, divisor: f64, n: usize) -> u32
     requires { ⌜ Ready 20 (now m) (now out) n count divisor ⌝ }
-    ensures { λ _. ⌜ Worked (now (m .entry)) n count (now (m .exit)) (now (out .exit)) ⌝ }
+    ensures { λ r. ⌜ Worked (now (m .entry)) n count (now (m .exit)) (now (out .exit)) r ⌝ }
 {
     let size = n * n;
     let mut even = [0.0; 400];
@@ -411,33 +413,53 @@ fn exp_large(m: &mut [f64], out: &mut [f64], count: u32, divisor: f64, n: usize)
         count,
         divisor,
         n,
-    );
+    )
 }
 
-// The exponential of m, into out, and true; or false, with out as it was, where a row sum is not
-// finite or is above 2^31. m itself is divided; where it is refused, it is as it was.
-pub fn matrix_exp(m: &mut [f64], out: &mut [f64], n: usize) -> bool
+// The exponential in the least class of room that holds it, and the number of its terms.
+fn exp_roomy(m: &mut [f64], out: &mut [f64], count: u32, divisor: f64, n: usize) -> u32
+    requires { ⌜ Ready 20 (now m) (now out) n count divisor ⌝ }
+    ensures { λ r. ⌜ Worked (now (m .entry)) n count (now (m .exit)) (now (out .exit)) r ⌝ }
+{
+    if n <= 4 {
+        return exp_small(m, out, count, divisor, n);
+    }
+    if n <= 8 {
+        return exp_medium(m, out, count, divisor, n);
+    }
+    if n <= 12 {
+        return exp_wide(m, out, count, divisor, n);
+    }
+    exp_large(m, out, count, divisor, n)
+}
+
+// How far an exponential went: whether it was made, the terms that were added to its series, and the squarings.
+pub struct Reach {
+    pub ok: bool,
+    pub terms: u32,
+    pub squarings: u32,
+}
+
+// The exponential of m, into out, and how far it went; or `ok` false, with out as it was, where a row sum is
+// not finite or is above 2^31. m itself is divided; where it is refused, it is as it was.
+pub fn matrix_exp(m: &mut [f64], out: &mut [f64], n: usize) -> Reach
     requires { ⌜ n ≤ 20 ⌝ }
     requires { ⌜ (length (now m) ≡ n * n) × (length (now out) ≡ n * n) ⌝ }
     ensures { λ r. ⌜ Filled (now (m .entry)) n (now (m .exit)) (now (out .entry)) (now (out .exit)) r ⌝ }
 {
     let norm = row_norm(&*m, n);
     if !norm.ok {
-        return false;
+        return Reach {
+            ok: false,
+            terms: 0,
+            squarings: 0,
+        };
     }
     let scale = scale_of(norm.value);
-    if n <= 4 {
-        exp_small(m, out, scale.count, scale.divisor, n);
-        return true;
+    let terms = exp_roomy(m, out, scale.count, scale.divisor, n);
+    Reach {
+        ok: true,
+        terms,
+        squarings: scale.count,
     }
-    if n <= 8 {
-        exp_medium(m, out, scale.count, scale.divisor, n);
-        return true;
-    }
-    if n <= 12 {
-        exp_wide(m, out, scale.count, scale.divisor, n);
-        return true;
-    }
-    exp_large(m, out, scale.count, scale.divisor, n);
-    true
 }

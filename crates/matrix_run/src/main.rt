@@ -1,5 +1,6 @@
 // Replays the oracle's list for the exponential. A record of standard input is a size, one byte, and
-// size * size doubles; the reply is byte 1 and as many doubles, or byte 0 where a row sum is refused.
+// size * size doubles; the reply is byte 1, terms and squarings, a byte each, and as many doubles, or byte 0
+// where a row sum is refused.
 ghost use Prim.Native.Nat.{_+_, _*_, _≤_};
 ghost use mathlib.Core.Path.{_≡_};
 ghost use lib.ListN.{length};
@@ -13,34 +14,37 @@ fn load(bytes: &[u8], m: &mut [f64])
     }
 }
 
-// The first byte of a reply that has doubles.
-fn mark(bytes: &mut [u8])
-    requires { ⌜ 1 ≤ length (now bytes) ⌝ }
+// The first bytes of a reply that has doubles.
+fn mark(bytes: &mut [u8], terms: u8, squarings: u8)
+    requires { ⌜ 3 ≤ length (now bytes) ⌝ }
 {
     bytes[0] = 1;
+    bytes[1] = terms;
+    bytes[2] = squarings;
 }
 
-// The doubles of a reply, after its first byte.
+// The doubles of a reply, after its first bytes.
 fn store(m: &[f64], bytes: &mut [u8])
-    requires { ⌜ length (now bytes) ≡ 1 + 8 * length (now m) ⌝ }
+    requires { ⌜ length (now bytes) ≡ 3 + 8 * length (now m) ⌝ }
 {
     for p in 0..m.len() {
-        wire::write_f64(bytes, 1 + 8 * p, m[p]);
+        wire::write_f64(bytes, 3 + 8 * p, m[p]);
     }
 }
 
 // Reads a record's doubles and writes the reply; false where the input has ended.
 fn exchange(input: &mut [u8], m: &mut [f64], out: &mut [f64], reply: &mut [u8], n: usize) -> bool
     requires { ⌜ (n ≤ 20) × (length (now m) ≡ n * n) × (length (now out) ≡ n * n) ⌝ }
-    requires { ⌜ (length (now input) ≡ 8 * (n * n)) × (length (now reply) ≡ 1 + 8 * (n * n)) ⌝ }
+    requires { ⌜ (length (now input) ≡ 8 * (n * n)) × (length (now reply) ≡ 3 + 8 * (n * n)) ⌝ }
 {
     let got = io::read_full(0, input);
     if got < input.len() {
         return false;
     }
     load(input, m);
-    if matrix::matrix_exp(m, out, n) {
-        mark(reply);
+    let reach = matrix::matrix_exp(m, out, n);
+    if reach.ok {
+        mark(reply, reach.terms as u8, reach.squarings as u8);
         store(out, reply);
         return io::write_all(1, reply);
     }
@@ -54,11 +58,11 @@ fn replay(n: usize) -> bool
 {
     let places = n * n;
     let bytes = 8 * places;
-    let after = 1 + bytes;
+    let after = 3 + bytes;
     let mut input = [0u8; 3200];
     let mut m = [0.0; 400];
     let mut out = [0.0; 400];
-    let mut reply = [0u8; 3201];
+    let mut reply = [0u8; 3203];
     exchange(
         &mut input[..bytes],
         &mut m[..places],

@@ -17,14 +17,6 @@ exp-into-spec =
     let c13 = c11 .before .before in
     (omega (arith, c13 .pre), ((omega (arith, c13 .pre), omega (arith, c13 .pre), omega (arith, c13 .pre), omega (arith, c13 .pre)), few-terms (c13 .pre .0) (c7 .div-all .ensures))))
     (λ c κs. search needs)
-    (λ c κs.
-    let c4 = c .before .before .before .before in
-    let c7 = c4 .before .before .before in
-    let c11 = c7 .before .before .before .before in
-    let c13 = c11 .before .before in
-    (omega (arith, c13 .pre), ((omega (arith, c13 .pre), omega (arith, c13 .pre), omega (arith, c13 .pre), omega (arith, c13 .pre)), few-terms (c13 .pre .0) (c7 .div-all .ensures))))
-    (λ c κs. search needs)
-    (λ c κs. search needs)
     (λ c. search needs)
     (λ c. search needs)
     (λ c. search needs)
@@ -40,6 +32,14 @@ exp-into-spec =
     let c25 = c21 .before .before .before .before in
     let c27 = c25 .before .before in
     exp-even _ _ _ _ _ _ _ (scaled-is (c27 .pre .0) (c21 .div-all .ensures)) (c13 .taylor .ensures) (c18 .if1 .taken) (c4 .square .ensures))
+    (λ c κs.
+    let c4 = c .before .before .before .before in
+    let c7 = c4 .before .before .before in
+    let c11 = c7 .before .before .before .before in
+    let c13 = c11 .before .before in
+    (omega (arith, c13 .pre), ((omega (arith, c13 .pre), omega (arith, c13 .pre), omega (arith, c13 .pre), omega (arith, c13 .pre)), few-terms (c13 .pre .0) (c7 .div-all .ensures))))
+    (λ c κs. search needs)
+    (λ c κs. search needs)
     (λ c. search needs)
     (λ c. search needs)
     (λ c. search needs)

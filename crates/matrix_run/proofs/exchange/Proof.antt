@@ -19,6 +19,12 @@ load-requires c κs = omega arith
 matrix-exp-requires : tie.Need-matrix-exp-requires
 matrix-exp-requires c κs = omega arith
 
+cast-mark : tie.Need-cast-mark
+cast-mark c = let raised = c .before .before .before .before .before .before .before in omega (arith, raised .matrix-exp .ensures .few .0)
+
+cast-mark-2 : tie.Need-cast-mark-2
+cast-mark-2 c = let raised = c .before .before .before .before .before .before .before .before in omega (arith, raised .matrix-exp .ensures .few .1)
+
 mark-requires : tie.Need-mark-requires
 mark-requires c κs = omega arith
 
@@ -70,6 +76,8 @@ exchange-spec =
     returns
     load-requires
     matrix-exp-requires
+    cast-mark
+    cast-mark-2
     mark-requires
     store-requires
     write-all-requires

@@ -40,7 +40,7 @@ array-borrow-prefix-reply : tie.Need-array-borrow-prefix-reply
 array-borrow-prefix-reply c = omega (arith, mul-le-mul (c .before .before .before .pre) (c .before .before .before .pre))
 
 slice-aggregate-exchange-4 : tie.Need-slice-aggregate-exchange-4
-slice-aggregate-exchange-4 c = sym (length-take-le _ (replicate 3201 0) (omega (arith, mul-le-mul (c .before .before .before .before .pre) (c .before .before .before .before .pre))))
+slice-aggregate-exchange-4 c = sym (length-take-le _ (replicate 3203 0) (omega (arith, mul-le-mul (c .before .before .before .before .pre) (c .before .before .before .before .pre))))
 
 exchange-requires : tie.Need-exchange-requires
 exchange-requires c κs =
@@ -48,7 +48,7 @@ exchange-requires c κs =
       (c .before .before .before .before .pre, m, m),
       (
         length-take-le _ (replicate 3200 0) (omega (arith, mul-le-mul (c .before .before .before .before .pre) (c .before .before .before .before .pre))),
-        length-take-le _ (replicate 3201 0)
+        length-take-le _ (replicate 3203 0)
             (omega (arith, mul-le-mul (c .before .before .before .before .pre) (c .before .before .before .before .pre))),
       ),
     )
