@@ -16,7 +16,7 @@ SMALL = {'add', 'subtract', 'scale', 'axpy', 'added', 'after', 'scaled', 'more',
 NONE = {'all-finite', 'finite', 'tested', 'may-ask', 'asked', 'ended', 'joined', 'nothing', 'clean', 'unadmitted', 'powi2', 'powi3', 'powi4', 'powi', 'divisor'}
 PHI = {'phi-term': 2, 'phi-action': 2, 'phi-term-if': 3, 'phi-if': 3, 'add-term': 4}
 LINES = ['begin', 'go-on', 'at-once', 'checked-line', 'over-line', 'over-plain', 'alone', 'reported', 'open-line', 'last-line', 'first-part',
-         'first-over', 'next-part', 'next-made', 'part-now', 'summed', 'answered-line', 'handed-on', 'handed-later', 'wanted-line', 'both-ask', 'unasked']
+         'first-over', 'next-plain', 'next-part', 'next-made', 'part-now', 'summed', 'answered-line', 'handed-on', 'handed-later', 'wanted-line', 'both-ask', 'unasked']
 REQUIRES = ['order-1', 'order-2', 'order-3', 'order-4', 'matrix-of', 'plain-answer', 'answer-0', 'answer-1', 'answer-2', 'answer-3']
 AP = {'add': 'add _ _', 'subtract': 'subtract _ _', 'axpy': 'axpy _ _ _'}
 STEP = 4
@@ -268,7 +268,7 @@ class Writer:
         if verb == 'part':
             return f'next-part _ _ _ _ {e(rest[0])}'
         if verb == 'part-by':
-            return f'next-part _ _ _ _ ({" ".join(rest)})'
+            return f'next-plain _ _ _ _ ({" ".join(rest)})'
         if verb == 'made':
             return f'next-made _ _ _ _ _ {e(rest[0])} {e(rest[1])}'
         if verb == 'made-by':

@@ -1,6 +1,6 @@
 // methods.rs: exp4, epirk4s3, epirk5s3 and epirk5p, the schemes over remainders. A pass is replayed over
 // the answers so far: a scheme works out the state of its first question, and a function for each
-// question takes the pass up there. A phi term that the question to come does not use gives its report alone.
+// question takes the pass up there. A phi term that the question to come does not use is only tested.
 use methods::Action;
 use methods::Out;
 use methods::PLACES;
@@ -32,8 +32,8 @@ ghost use lib.Ieee.{Float};
 ghost use Rattle.methods.specs.Numbers.{num};
 ghost use Rattle.methods.specs.Vectors.{Sized};
 ghost use Rattle.methods.specs.Given.{Given};
-ghost use Rattle.methods.specs.Parts.{ifWanted};
-ghost use Rattle.methods.specs.Pass.{under, replay, stand};
+ghost use Rattle.methods.specs.Pass.{under, replay};
+ghost use Rattle.methods.specs.Parts.{ifWanted, in32, stand};
 ghost use Rattle.methods.specs.Schemes.{exp4, epirk4s3, epirk4s3A, epirk4s3B, epirk5s3, powi, epirk5p, epirk5pEnd, epirk5p1, epirk5p2};
 ghost use Rattle.exp4_epirk.specs.Stages.{exp4·4, exp4·7, epirk4s3·2, epirk4s3·3, epirk5s3·2, epirk5s3·3, epirk5p·1, epirk5p·2};
 
@@ -41,7 +41,7 @@ ghost use Rattle.exp4_epirk.specs.Stages.{exp4·4, exp4·7, epirk4s3·2,
 
 pub fn exp4(p: Point, a: &[f64], answers: &[f64], first: usize, count: usize) -> Out
     requires { ⌜ Given (p .n) (now a) (now answers) first ⌝ }
-    ensures { λ r. ⌜ stand r ≡ replay (p .n) (exp4 (p .n) (now (a .entry)) (p .state) (p .time) (p .step) (p .f0)) count first (now (answers .entry)) ⌝ }
+    ensures { λ r. ⌜ stand r ≡ in32 (replay (p .n) (exp4 (p .n) (now (a .entry)) (p .state) (p .time) (p .step) (p .f0)) count first (now (answers .entry))) ⌝ }
 {
     let n = p.n;
     let h = p.step;
@@ -72,7 +72,7 @@ fn exp4_4(
     u4: Vector,
 ) -> Out
     requires { ⌜ Given (p .n) (now a) (now answers) first ⌝ }
-    ensures { λ r. ⌜ stand r ≡ under tally (replay (p .n) (exp4·4 p (now (a .entry)) k10 k11 k12 u4) count first (now (answers .entry))) ⌝ }
+    ensures { λ r. ⌜ stand r ≡ in32 (under tally (replay (p .n) (exp4·4 p (now (a .entry)) k10 k11 k12 u4) count first (now (answers .entry)))) ⌝ }
 {
     let n = p.n;
     let t = p.time;
@@ -114,7 +114,7 @@ fn exp4_7(
 ) -> Out
     requires { ⌜ Given (p .n) (now a) (now answers) first ⌝ }
     requires { ⌜ 1 ≤ count ⌝ }
-    ensures { λ r. ⌜ stand r ≡ under tally (replay (p .n) (exp4·7 p (now (a .entry)) k12 k20 k21 k22 u7) (count - 1) (first + 1) (now (answers .entry))) ⌝ }
+    ensures { λ r. ⌜ stand r ≡ in32 (under tally (replay (p .n) (exp4·7 p (now (a .entry)) k12 k20 k21 k22 u7) (count - 1) (first + 1) (now (answers .entry)))) ⌝ }
 {
     let n = p.n;
     let t = p.time;
@@ -140,7 +140,7 @@ fn exp4_7(
 
 pub fn epirk4s3_a(p: Point, a: &[f64], answers: &[f64], first: usize, count: usize) -> Out
     requires { ⌜ Given (p .n) (now a) (now answers) first ⌝ }
-    ensures { λ r. ⌜ stand r ≡ replay (p .n) (epirk4s3A (p .n) (now (a .entry)) (p .state) (p .time) (p .step) (p .f0)) count first (now (answers .entry)) ⌝ }
+    ensures { λ r. ⌜ stand r ≡ in32 (replay (p .n) (epirk4s3A (p .n) (now (a .entry)) (p .state) (p .time) (p .step) (p .f0)) count first (now (answers .entry))) ⌝ }
 {
     let n = p.n;
     let h = p.step;
@@ -168,7 +168,7 @@ pub fn epirk4s3_a(p: Point, a: &[f64], answers: &[f64], first: usize, count: usi
 
 pub fn epirk4s3_b(p: Point, a: &[f64], answers: &[f64], first: usize, count: usize) -> Out
     requires { ⌜ Given (p .n) (now a) (now answers) first ⌝ }
-    ensures { λ r. ⌜ stand r ≡ replay (p .n) (epirk4s3B (p .n) (now (a .entry)) (p .state) (p .time) (p .step) (p .f0)) count first (now (answers .entry)) ⌝ }
+    ensures { λ r. ⌜ stand r ≡ in32 (replay (p .n) (epirk4s3B (p .n) (now (a .entry)) (p .state) (p .time) (p .step) (p .f0)) count first (now (answers .entry))) ⌝ }
 {
     let n = p.n;
     let h = p.step;
@@ -219,8 +219,8 @@ fn epirk4s3(
     q3c: f64,
 ) -> Out
     requires { ⌜ Given (p .n) (now a) (now answers) first ⌝ }
-    ensures { λ r. ⌜ ((k : Action) → k3 ≡ ifWanted (leb 1 count) k → stand r ≡ replay (p .n)
-        (epirk4s3 (p .n) (now (a .entry)) (p .state) (p .time) (p .step) (p .f0) k2 k c2 c3 r2c r3c q2c q3c) count first (now (answers .entry))) ⌝ }
+    ensures { λ r. ⌜ ((k : Action) → k3 ≡ ifWanted (leb 1 count) k → stand r ≡ in32 (replay (p .n)
+        (epirk4s3 (p .n) (now (a .entry)) (p .state) (p .time) (p .step) (p .f0) k2 k c2 c3 r2c r3c q2c q3c) count first (now (answers .entry)))) ⌝ }
 {
     let n = p.n;
     let u = p.state;
@@ -264,7 +264,7 @@ fn epirk4s3_2(
     q3c: f64,
 ) -> Out
     requires { ⌜ Given (p .n) (now a) (now answers) first ⌝ }
-    ensures { λ r. ⌜ stand r ≡ under tally (replay (p .n) (epirk4s3·2 p (now (a .entry)) u2 u3 c2 c3 r2c r3c q2c q3c) count first (now (answers .entry))) ⌝ }
+    ensures { λ r. ⌜ stand r ≡ in32 (under tally (replay (p .n) (epirk4s3·2 p (now (a .entry)) u2 u3 c2 c3 r2c r3c q2c q3c) count first (now (answers .entry)))) ⌝ }
 {
     let n = p.n;
     let t = p.time;
@@ -310,7 +310,7 @@ fn epirk4s3_3(
 ) -> Out
     requires { ⌜ Given (p .n) (now a) (now answers) first ⌝ }
     requires { ⌜ 1 ≤ count ⌝ }
-    ensures { λ r. ⌜ stand r ≡ under tally (replay (p .n) (epirk4s3·3 p (now (a .entry)) r2 u3 c3 r2c r3c q2c q3c) (count - 1) (first + 1) (now (answers .entry))) ⌝ }
+    ensures { λ r. ⌜ stand r ≡ in32 (under tally (replay (p .n) (epirk4s3·3 p (now (a .entry)) r2 u3 c3 r2c r3c q2c q3c) (count - 1) (first + 1) (now (answers .entry)))) ⌝ }
 {
     let n = p.n;
     let t = p.time;
@@ -337,7 +337,7 @@ fn epirk4s3_3(
 
 pub fn epirk5s3(p: Point, a: &[f64], answers: &[f64], first: usize, count: usize) -> Out
     requires { ⌜ Given (p .n) (now a) (now answers) first ⌝ }
-    ensures { λ r. ⌜ stand r ≡ replay (p .n) (epirk5s3 (p .n) (now (a .entry)) (p .state) (p .time) (p .step) (p .f0)) count first (now (answers .entry)) ⌝ }
+    ensures { λ r. ⌜ stand r ≡ in32 (replay (p .n) (epirk5s3 (p .n) (now (a .entry)) (p .state) (p .time) (p .step) (p .f0)) count first (now (answers .entry))) ⌝ }
 {
     let n = p.n;
     let h = p.step;
@@ -363,7 +363,7 @@ fn epirk5s3_2(
     u2: Vector,
 ) -> Out
     requires { ⌜ Given (p .n) (now a) (now answers) first ⌝ }
-    ensures { λ r. ⌜ stand r ≡ under tally (replay (p .n) (epirk5s3·2 p (now (a .entry)) u2) count first (now (answers .entry))) ⌝ }
+    ensures { λ r. ⌜ stand r ≡ in32 (under tally (replay (p .n) (epirk5s3·2 p (now (a .entry)) u2) count first (now (answers .entry)))) ⌝ }
 {
     let n = p.n;
     let t = p.time;
@@ -401,7 +401,7 @@ fn epirk5s3_3(
 ) -> Out
     requires { ⌜ Given (p .n) (now a) (now answers) first ⌝ }
     requires { ⌜ 1 ≤ count ⌝ }
-    ensures { λ r. ⌜ stand r ≡ under tally (replay (p .n) (epirk5s3·3 p (now (a .entry)) r2 u3) (count - 1) (first + 1) (now (answers .entry))) ⌝ }
+    ensures { λ r. ⌜ stand r ≡ in32 (under tally (replay (p .n) (epirk5s3·3 p (now (a .entry)) r2 u3) (count - 1) (first + 1) (now (answers .entry)))) ⌝ }
 {
     let n = p.n;
     let t = p.time;
@@ -432,7 +432,7 @@ fn epirk5s3_3(
 
 pub fn epirk5p1(p: Point, a: &[f64], answers: &[f64], first: usize, count: usize) -> Out
     requires { ⌜ Given (p .n) (now a) (now answers) first ⌝ }
-    ensures { λ r. ⌜ stand r ≡ replay (p .n) (epirk5p1 (p .n) (now (a .entry)) (p .state) (p .time) (p .step) (p .f0)) count first (now (answers .entry)) ⌝ }
+    ensures { λ r. ⌜ stand r ≡ in32 (replay (p .n) (epirk5p1 (p .n) (now (a .entry)) (p .state) (p .time) (p .step) (p .f0)) count first (now (answers .entry))) ⌝ }
 {
     let g11 = 0.3512959269505819;
     let g21 = 0.8440547201165713;
@@ -465,7 +465,7 @@ pub fn epirk5p1(p: Point, a: &[f64], answers: &[f64], first: usize, count: usize
 
 pub fn epirk5p2(p: Point, a: &[f64], answers: &[f64], first: usize, count: usize) -> Out
     requires { ⌜ Given (p .n) (now a) (now answers) first ⌝ }
-    ensures { λ r. ⌜ stand r ≡ replay (p .n) (epirk5p2 (p .n) (now (a .entry)) (p .state) (p .time) (p .step) (p .f0)) count first (now (answers .entry)) ⌝ }
+    ensures { λ r. ⌜ stand r ≡ in32 (replay (p .n) (epirk5p2 (p .n) (now (a .entry)) (p .state) (p .time) (p .step) (p .f0)) count first (now (answers .entry))) ⌝ }
 {
     let g11 = 0.46629408528088196;
     let g21 = 0.8821791265336387;
@@ -536,8 +536,8 @@ fn epirk5p(
 ) -> Out
     requires { ⌜ Given (p .n) (now a) (now answers) first ⌝ }
     requires { ⌜ (1 ≤ «second_order») × («second_order» ≤ 4) ⌝ }
-    ensures { λ r. ⌜ stand r ≡ replay (p .n) (epirk5p (p .n) (now (a .entry)) (p .state) (p .time) (p .step) (p .f0)
-        g11 g21 g32 g33 a22 b2 b31 b32 b33 «second_order» «variant_2») count first (now (answers .entry)) ⌝ }
+    ensures { λ r. ⌜ stand r ≡ in32 (replay (p .n) (epirk5p (p .n) (now (a .entry)) (p .state) (p .time) (p .step) (p .f0)
+        g11 g21 g32 g33 a22 b2 b31 b32 b33 «second_order» «variant_2») count first (now (answers .entry))) ⌝ }
 {
     let n = p.n;
     let h = p.step;
@@ -599,8 +599,8 @@ fn epirk5p_1(
 ) -> Out
     requires { ⌜ Given (p .n) (now a) (now answers) first ⌝ }
     requires { ⌜ (1 ≤ «second_order») × («second_order» ≤ 4) ⌝ }
-    ensures { λ r. ⌜ stand r ≡ under tally (replay (p .n) (epirk5p·1 p (now (a .entry)) k21 k31 u1
-        g11 g21 g32 g33 a22 b2 b31 b32 b33 «second_order» «variant_2») count first (now (answers .entry))) ⌝ }
+    ensures { λ r. ⌜ stand r ≡ in32 (under tally (replay (p .n) (epirk5p·1 p (now (a .entry)) k21 k31 u1
+        g11 g21 g32 g33 a22 b2 b31 b32 b33 «second_order» «variant_2») count first (now (answers .entry)))) ⌝ }
 {
     let n = p.n;
     let t = p.time;
@@ -659,7 +659,7 @@ fn epirk5p_2(
 ) -> Out
     requires { ⌜ Given (p .n) (now a) (now answers) first ⌝ }
     requires { ⌜ 1 ≤ count ⌝ }
-    ensures { λ r. ⌜ stand r ≡ under tally (replay (p .n) (epirk5p·2 p (now (a .entry)) k31 r1 k2 u2 g21 g33 b2 b31 b32 b33 «variant_2») (count - 1) (first + 1) (now (answers .entry))) ⌝ }
+    ensures { λ r. ⌜ stand r ≡ in32 (under tally (replay (p .n) (epirk5p·2 p (now (a .entry)) k31 r1 k2 u2 g21 g33 b2 b31 b32 b33 «variant_2») (count - 1) (first + 1) (now (answers .entry)))) ⌝ }
 {
     let n = p.n;
     let t = p.time;
@@ -690,8 +690,8 @@ fn epirk5p_end(
     variant_2: bool,
 ) -> Out
     requires { ⌜ Sized (p .n) (now a) ⌝ }
-    ensures { λ r. ⌜ ((count first : ℕ) (answers : List Float) → stand r ≡ under tally (replay (p .n)
-        (epirk5pEnd (p .n) (now (a .entry)) (p .step) g33 b31 b32 b33 «variant_2» dr output) count first answers)) ⌝ }
+    ensures { λ r. ⌜ ((count first : ℕ) (answers : List Float) → stand r ≡ in32 (under tally (replay (p .n)
+        (epirk5pEnd (p .n) (now (a .entry)) (p .step) g33 b31 b32 b33 «variant_2» dr output) count first answers))) ⌝ }
 {
     let n = p.n;
     let h = p.step;

@@ -31,7 +31,8 @@ ghost use Prim.Native.Nat.{ℕ, _+_, _-_, _≤_};
 ghost use lib.Ieee.{Float};
 ghost use Rattle.methods.specs.Vectors.{Sized};
 ghost use Rattle.methods.specs.Given.{Given};
-ghost use Rattle.methods.specs.Pass.{under, replay, stand};
+ghost use Rattle.methods.specs.Pass.{under, replay};
+ghost use Rattle.methods.specs.Parts.{narrowed, in32, stand};
 ghost use Rattle.methods.specs.Schemes.{lawsonEuler, norsettEuler, etd2, etdrk2, etdrk3, etdrk4, a52, hochOst4};
 ghost use Rattle.lawson_etd.specs.Stages.{etdrk2·2, etdrk3·2, etdrk3·3, etdrk4·2, etdrk4·3, etdrk4·4};
 ghost use Rattle.lawson_etd.specs.Stages.{hochOst4·2, hochOst4·3, hochOst4·4, hochOst4·5, sum5, a52Of, a54Of, whole, halved};
@@ -40,7 +41,7 @@ ghost use Rattle.lawson_etd.specs.Stages.{hochOst4·2, hochOst4·3, hoch
 
 pub fn lawson_euler(a: &[f64], u: Vector, g: Vector, h: f64, n: usize) -> Out
     requires { ⌜ Sized n (now a) ⌝ }
-    ensures { λ r. ⌜ ((count first : ℕ) (answers : List Float) → stand r ≡ replay n (lawsonEuler n (now (a .entry)) u g h) count first answers) ⌝ }
+    ensures { λ r. ⌜ ((count first : ℕ) (answers : List Float) → stand r ≡ in32 (replay n (lawsonEuler n (now (a .entry)) u g h) count first answers)) ⌝ }
 {
     let shifted = axpy(u, h, g, n);
     let s = exp_action(a, h, shifted, n);
@@ -50,7 +51,7 @@ pub fn lawson_euler(a: &[f64], u: Vector, g: Vector, h: f64, n: usize) -> Out
 
 pub fn norsett_euler(a: &[f64], u: Vector, f0: Vector, h: f64, n: usize) -> Out
     requires { ⌜ Sized n (now a) ⌝ }
-    ensures { λ r. ⌜ ((count first : ℕ) (answers : List Float) → stand r ≡ replay n (norsettEuler n (now (a .entry)) u f0 h) count first answers) ⌝ }
+    ensures { λ r. ⌜ ((count first : ℕ) (answers : List Float) → stand r ≡ in32 (replay n (norsettEuler n (now (a .entry)) u f0 h) count first answers)) ⌝ }
 {
     let s = added(u, phi_term(a, h, 1, h, f0, n), n);
     let x = s.v;
@@ -59,7 +60,7 @@ pub fn norsett_euler(a: &[f64], u: Vector, f0: Vector, h: f64, n: usize) -> Out
 
 pub fn etd2(a: &[f64], u: Vector, h: f64, g: Vector, held: bool, previous: Vector, n: usize) -> Out
     requires { ⌜ Sized n (now a) ⌝ }
-    ensures { λ r. ⌜ ((count first : ℕ) (answers : List Float) → stand r ≡ replay n (etd2 n (now (a .entry)) u h g held previous) count first answers) ⌝ }
+    ensures { λ r. ⌜ ((count first : ℕ) (answers : List Float) → stand r ≡ in32 (replay n (etd2 n (now (a .entry)) u h g held previous) count first answers)) ⌝ }
 {
     let k = exp_action(a, h, u, n);
     let k = add_term(k, 1.0, a, h, 1, h, g, n);
@@ -77,7 +78,7 @@ pub fn etd2(a: &[f64], u: Vector, h: f64, g: Vector, held: bool, previous: Vecto
 
 pub fn etdrk2(p: Point, a: &[f64], g0: Vector, answers: &[f64], first: usize, count: usize) -> Out
     requires { ⌜ Given (p .n) (now a) (now answers) first ⌝ }
-    ensures { λ r. ⌜ stand r ≡ replay (p .n) (etdrk2 (p .n) (now (a .entry)) (p .state) (p .time) (p .step) (p .f0) g0) count first (now (answers .entry)) ⌝ }
+    ensures { λ r. ⌜ stand r ≡ in32 (replay (p .n) (etdrk2 (p .n) (now (a .entry)) (p .state) (p .time) (p .step) (p .f0) g0) count first (now (answers .entry))) ⌝ }
 {
     let n = p.n;
     let h = p.step;
@@ -99,7 +100,7 @@ fn etdrk2_2(
     u2: Vector,
 ) -> Out
     requires { ⌜ Given (p .n) (now a) (now answers) first ⌝ }
-    ensures { λ r. ⌜ stand r ≡ under tally (replay (p .n) (etdrk2·2 p (now (a .entry)) g0 u2) count first (now (answers .entry))) ⌝ }
+    ensures { λ r. ⌜ stand r ≡ in32 (under tally (replay (p .n) (etdrk2·2 p (now (a .entry)) g0 u2) count first (now (answers .entry)))) ⌝ }
 {
     let n = p.n;
     let t = p.time;
@@ -120,7 +121,7 @@ fn etdrk2_2(
 
 pub fn etdrk3(p: Point, a: &[f64], au: Vector, answers: &[f64], first: usize, count: usize) -> Out
     requires { ⌜ Given (p .n) (now a) (now answers) first ⌝ }
-    ensures { λ r. ⌜ stand r ≡ replay (p .n) (etdrk3 (p .n) (now (a .entry)) (p .state) (p .time) (p .step) (p .f0) au) count first (now (answers .entry)) ⌝ }
+    ensures { λ r. ⌜ stand r ≡ in32 (replay (p .n) (etdrk3 (p .n) (now (a .entry)) (p .state) (p .time) (p .step) (p .f0) au) count first (now (answers .entry))) ⌝ }
 {
     let n = p.n;
     let h = p.step;
@@ -142,7 +143,7 @@ fn etdrk3_2(
     u2: Vector,
 ) -> Out
     requires { ⌜ Given (p .n) (now a) (now answers) first ⌝ }
-    ensures { λ r. ⌜ stand r ≡ under tally (replay (p .n) (etdrk3·2 p (now (a .entry)) au u2) count first (now (answers .entry))) ⌝ }
+    ensures { λ r. ⌜ stand r ≡ in32 (under tally (replay (p .n) (etdrk3·2 p (now (a .entry)) au u2) count first (now (answers .entry)))) ⌝ }
 {
     let n = p.n;
     let t = p.time;
@@ -183,7 +184,7 @@ fn etdrk3_3(
 ) -> Out
     requires { ⌜ Given (p .n) (now a) (now answers) first ⌝ }
     requires { ⌜ 1 ≤ count ⌝ }
-    ensures { λ r. ⌜ stand r ≡ under tally (replay (p .n) (etdrk3·3 p (now (a .entry)) au f2 u3) (count - 1) (first + 1) (now (answers .entry))) ⌝ }
+    ensures { λ r. ⌜ stand r ≡ in32 (under tally (replay (p .n) (etdrk3·3 p (now (a .entry)) au f2 u3) (count - 1) (first + 1) (now (answers .entry)))) ⌝ }
 {
     let n = p.n;
     let t = p.time;
@@ -210,7 +211,7 @@ fn etdrk3_3(
 
 pub fn etdrk4(p: Point, a: &[f64], au: Vector, answers: &[f64], first: usize, count: usize) -> Out
     requires { ⌜ Given (p .n) (now a) (now answers) first ⌝ }
-    ensures { λ r. ⌜ stand r ≡ replay (p .n) (etdrk4 (p .n) (now (a .entry)) (p .state) (p .time) (p .step) (p .f0) au) count first (now (answers .entry)) ⌝ }
+    ensures { λ r. ⌜ stand r ≡ in32 (replay (p .n) (etdrk4 (p .n) (now (a .entry)) (p .state) (p .time) (p .step) (p .f0) au) count first (now (answers .entry))) ⌝ }
 {
     let n = p.n;
     let u = p.state;
@@ -232,7 +233,7 @@ fn etdrk4_2(
     u2: Vector,
 ) -> Out
     requires { ⌜ Given (p .n) (now a) (now answers) first ⌝ }
-    ensures { λ r. ⌜ stand r ≡ under tally (replay (p .n) (etdrk4·2 p (now (a .entry)) au u2) count first (now (answers .entry))) ⌝ }
+    ensures { λ r. ⌜ stand r ≡ in32 (under tally (replay (p .n) (etdrk4·2 p (now (a .entry)) au u2) count first (now (answers .entry)))) ⌝ }
 {
     let n = p.n;
     let t = p.time;
@@ -273,7 +274,7 @@ fn etdrk4_3(
 ) -> Out
     requires { ⌜ Given (p .n) (now a) (now answers) first ⌝ }
     requires { ⌜ 1 ≤ count ⌝ }
-    ensures { λ r. ⌜ stand r ≡ under tally (replay (p .n) (etdrk4·3 p (now (a .entry)) au u2 f2 u3) (count - 1) (first + 1) (now (answers .entry))) ⌝ }
+    ensures { λ r. ⌜ stand r ≡ in32 (under tally (replay (p .n) (etdrk4·3 p (now (a .entry)) au u2 f2 u3) (count - 1) (first + 1) (now (answers .entry)))) ⌝ }
 {
     let n = p.n;
     let t = p.time;
@@ -316,7 +317,7 @@ fn etdrk4_4(
 ) -> Out
     requires { ⌜ Given (p .n) (now a) (now answers) first ⌝ }
     requires { ⌜ 2 ≤ count ⌝ }
-    ensures { λ r. ⌜ stand r ≡ under tally (replay (p .n) (etdrk4·4 p (now (a .entry)) au f2 f3 u4) (count - 2) (first + 2) (now (answers .entry))) ⌝ }
+    ensures { λ r. ⌜ stand r ≡ in32 (under tally (replay (p .n) (etdrk4·4 p (now (a .entry)) au f2 f3 u4) (count - 2) (first + 2) (now (answers .entry)))) ⌝ }
 {
     let n = p.n;
     let t = p.time;
@@ -346,7 +347,7 @@ fn etdrk4_4(
 // a52 of four phi terms of one vector.
 fn a52(p2h: Action, p3: Action, p2: Action, p3h: Action, n: usize) -> Action
     requires { ⌜ n ≤ 16 ⌝ }
-    ensures { λ r. ⌜ r ≡ a52Of n p2h p3 p2 p3h ⌝ }
+    ensures { λ r. ⌜ r ≡ narrowed (a52Of n p2h p3 p2 p3h) ⌝ }
 {
     let k = more(nothing(), 0.5, p2h, n);
     let k = more(k, -1.0, p3, n);
@@ -357,7 +358,7 @@ fn a52(p2h: Action, p3: Action, p2: Action, p3h: Action, n: usize) -> Action
 // a54 of a phi term and a52 of the same vector.
 fn a54(p2h: Action, inner: Action, n: usize) -> Action
     requires { ⌜ n ≤ 16 ⌝ }
-    ensures { λ r. ⌜ r ≡ a54Of n p2h inner ⌝ }
+    ensures { λ r. ⌜ r ≡ narrowed (a54Of n p2h inner) ⌝ }
 {
     let k = more(nothing(), 0.25, p2h, n);
     more(k, -1.0, inner, n)
@@ -366,7 +367,7 @@ fn a54(p2h: Action, inner: Action, n: usize) -> Action
 // a52 of a vector.
 fn a52_of(a: &[f64], h: f64, v: Vector, n: usize) -> Action
     requires { ⌜ Sized n (now a) ⌝ }
-    ensures { λ r. ⌜ r ≡ a52 n (now (a .entry)) h v ⌝ }
+    ensures { λ r. ⌜ r ≡ narrowed (a52 n (now (a .entry)) h v) ⌝ }
 {
     let p2h = phi_term(a, h / 2.0, 2, 1.0, v, n);
     let p3 = phi_term(a, h, 3, 1.0, v, n);
@@ -384,7 +385,7 @@ pub fn hoch_ost4(
     count: usize,
 ) -> Out
     requires { ⌜ Given (p .n) (now a) (now answers) first ⌝ }
-    ensures { λ r. ⌜ stand r ≡ replay (p .n) (hochOst4 (p .n) (now (a .entry)) (p .state) (p .time) (p .step) (p .f0) au) count first (now (answers .entry)) ⌝ }
+    ensures { λ r. ⌜ stand r ≡ in32 (replay (p .n) (hochOst4 (p .n) (now (a .entry)) (p .state) (p .time) (p .step) (p .f0) au) count first (now (answers .entry))) ⌝ }
 {
     let n = p.n;
     let u = p.state;
@@ -409,7 +410,7 @@ fn hoch_ost4_2(
 ) -> Out
     requires { ⌜ Given (p .n) (now a) (now answers) first ⌝ }
     requires { ⌜ p1h ≡ halved p (now a) 1 (p .f0) ⌝ }
-    ensures { λ r. ⌜ stand r ≡ under tally (replay (p .n) (hochOst4·2 p (now (a .entry)) au u2) count first (now (answers .entry))) ⌝ }
+    ensures { λ r. ⌜ stand r ≡ in32 (under tally (replay (p .n) (hochOst4·2 p (now (a .entry)) au u2) count first (now (answers .entry)))) ⌝ }
 {
     let n = p.n;
     let t = p.time;
@@ -447,7 +448,7 @@ fn hoch_ost4_3(
     requires { ⌜ Given (p .n) (now a) (now answers) first ⌝ }
     requires { ⌜ 1 ≤ count ⌝ }
     requires { ⌜ (p1h ≡ halved p (now a) 1 (p .f0)) × (p2h ≡ halved p (now a) 2 (p .f0)) ⌝ }
-    ensures { λ r. ⌜ stand r ≡ under tally (replay (p .n) (hochOst4·3 p (now (a .entry)) au f2 u3) (count - 1) (first + 1) (now (answers .entry))) ⌝ }
+    ensures { λ r. ⌜ stand r ≡ in32 (under tally (replay (p .n) (hochOst4·3 p (now (a .entry)) au f2 u3) (count - 1) (first + 1) (now (answers .entry)))) ⌝ }
 {
     let n = p.n;
     let t = p.time;
@@ -502,7 +503,7 @@ fn hoch_ost4_sum(
     requires { ⌜ Sized (p .n) (now a) ⌝ }
     requires { ⌜ (p2h ≡ halved p (now a) 2 (p .f0)) × (p2 ≡ whole p (now a) 2 (p .f0)) × (p3 ≡ whole p (now a) 3 (p .f0)) ⌝ }
     requires { ⌜ (g2 ≡ whole p (now a) 2 f4) × (g3 ≡ whole p (now a) 3 f4) ⌝ }
-    ensures { λ r. ⌜ r ≡ sum5 p (now (a .entry)) p1h sum23 f4 ⌝ }
+    ensures { λ r. ⌜ r ≡ narrowed (sum5 p (now (a .entry)) p1h sum23 f4) ⌝ }
 {
     let n = p.n;
     let h = p.step;
@@ -541,7 +542,7 @@ fn hoch_ost4_4(
     requires { ⌜ 2 ≤ count ⌝ }
     requires { ⌜ (p1h ≡ halved p (now a) 1 (p .f0)) × (p2h ≡ halved p (now a) 2 (p .f0)) ⌝ }
     requires { ⌜ (p1 ≡ whole p (now a) 1 (p .f0)) × (p2 ≡ whole p (now a) 2 (p .f0)) ⌝ }
-    ensures { λ r. ⌜ stand r ≡ under tally (replay (p .n) (hochOst4·4 p (now (a .entry)) au f2 f3 u4) (count - 2) (first + 2) (now (answers .entry))) ⌝ }
+    ensures { λ r. ⌜ stand r ≡ in32 (under tally (replay (p .n) (hochOst4·4 p (now (a .entry)) au f2 f3 u4) (count - 2) (first + 2) (now (answers .entry)))) ⌝ }
 {
     let n = p.n;
     let t = p.time;
@@ -599,7 +600,7 @@ fn hoch_ost4_5(
     requires { ⌜ 3 ≤ count ⌝ }
     requires { ⌜ (p1 ≡ whole p (now a) 1 (p .f0)) × (p2 ≡ whole p (now a) 2 (p .f0)) × (p3 ≡ whole p (now a) 3 (p .f0)) ⌝ }
     requires { ⌜ (g2 ≡ whole p (now a) 2 f4) × (g3 ≡ whole p (now a) 3 f4) ⌝ }
-    ensures { λ r. ⌜ stand r ≡ under tally (replay (p .n) (hochOst4·5 p (now (a .entry)) au f4 u5) (count - 3) (first + 3) (now (answers .entry))) ⌝ }
+    ensures { λ r. ⌜ stand r ≡ in32 (under tally (replay (p .n) (hochOst4·5 p (now (a .entry)) au f4 u5) (count - 3) (first + 3) (now (answers .entry)))) ⌝ }
 {
     let n = p.n;
     let t = p.time;

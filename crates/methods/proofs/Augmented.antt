@@ -25,7 +25,8 @@ use Rattle.matrix.specs.Vector.{zeros}
 use Rattle.methods.specs.declared.Action.{Action}
 use Rattle.methods.specs.declared.Tally.{Tally}
 use Rattle.methods.specs.Vectors.{Sized}
-use Rattle.methods.specs.Tally.{tested}
+use Rattle.methods.specs.Tally.{tested, single}
+use Rattle.methods.proofs.Laws.{reach-ok}
 use Rattle.methods.specs.Phi.{checked, over, augmentedEntry, augmented, phiAction, phiTerm}
 use Rattle.methods.specs.Parts.{inputRow, rowsTo, chained, admittedSum, inputAdmitted, ifWanted}
 
@@ -285,8 +286,8 @@ wanted-is b k l h e = rw h e
 
 pub phi-report : (b : Bool) (t : Tally) (n : ℕ) (a : List Float) (c : Float) (order : ℕ) (x : List Float) → b ≡ false → Sized n a → 1 ≤ order → t ≡ tested (inputAdmitted n a c x)
     → record { v = replicate 16 zero+; tally = t } ≡ ifWanted b (phiAction n a c order x)
-unfolding ifWanted phiAction checked tested zeros
-phi-report b t n a c order x h s o e = rw (h, e, sums-admitted n a c order x (s .some) o)
+unfolding ifWanted phiAction checked single zeros
+phi-report b t n a c order x h s o e = rw (h, e, reach-ok, sums-admitted n a c order x (s .some) o)
 
 -- a term reports what its action does
 pub term-report : (b : Bool) (k : Action) (n : ℕ) (a : List Float) (c : Float) (order : ℕ) (d : Float) (x : List Float) → b ≡ false → k ≡ ifWanted false (phiAction n a c order x)

@@ -4,8 +4,8 @@ pub mod Vectors
 pub mod Given
 pub mod Tally
 pub mod Phi
-pub mod Parts
 pub mod Pass
 pub mod Schemes
 pub mod Step
+pub mod Parts
 pub mod Shape

@@ -9,9 +9,6 @@ use Rattle.evaluation.specs.Evaluation.{allFinite}
 use Rattle.matrix.specs.Vector.{vec, matVec}
 use Rattle.methods.specs.declared.Tally.{Tally}
 use Rattle.methods.specs.declared.Action.{Action}
-use Rattle.methods.specs.declared.Kind.{Kind}
-use Rattle.methods.specs.declared.Kind.the-variants.{Question, Done}
-use Rattle.methods.specs.declared.Out.{Out}
 use Rattle.methods.specs.Numbers.{num, minus}
 use Rattle.evaluation.specs.Sizes.{places}
 use Rattle.methods.specs.Vectors.{subtract, axpy}
@@ -54,15 +51,21 @@ remainder n a stage base f0 time = question stage time (λ value. axpy n (axpy n
 
 -- ---- replaying a pass over the answers so far
 
--- where a pass stands: a test failed, it asks, or it has ended
+-- where a pass stands: a test failed, it asks, or it has ended, with what its exponentials reported in all
 pub data Stand : Type 0 where
   fails : Stand
   asks : List Float → Float → Stand
-  ends : List Float → List Float → Stand
+  ends : List Float → List Float → Tally → Stand
+
+-- an end takes a report in; a pass that asks carries none
+unfoldable pub counting : Tally → Stand → Stand
+counting tally fails = fails
+counting tally (asks x t) = asks x t
+counting tally (ends x e rest) = ends x e (joined tally rest)
 
 -- a stand under a report: it fails where an exponential was not admitted
 unfoldable pub under : Tally → Stand → Stand
-under tally s = cond (tally .ok) s fails
+under tally s = cond (tally .ok) (counting tally s) fails
 
 -- answer j: its first n places
 unfoldable pub answer : ℕ → List Float → ℕ → List Float
@@ -70,15 +73,6 @@ answer n answers j = vec n (λ i. answers ! (places * j + i))
 
 -- The pass over `count` answers, the first of them answer j. Every question on the way is tested, answered ones too.
 unfoldable pub replay : ℕ → Pass → ℕ → ℕ → List Float → Stand
-replay n (ask tally x t next) zero j answers = cond (tally .ok && allFinite x && finite t) (asks x t) fails
-replay n (ask tally x t next) (suc count) j answers =
-    cond (tally .ok && allFinite x && finite t) (replay n (next (answer n answers j)) count (suc j) answers) fails
-replay n (done tally x e) count j answers = cond (tally .ok && allFinite x && allFinite e) (ends x e) fails
-
--- what the code's record says of it
-unfoldable pub standKind : Kind → List Float → List Float → Stand
-standKind (Question t) x e = asks x t
-standKind Done x e = ends x e
-
-unfoldable pub stand : Out → Stand
-stand o = under (o .tally) (standKind (o .kind) (o .x) (o .e))
+replay n (ask tally x t next) zero j answers = under tally (cond (allFinite x && finite t) (asks x t) fails)
+replay n (ask tally x t next) (suc count) j answers = under tally (cond (allFinite x && finite t) (replay n (next (answer n answers j)) count (suc j) answers) fails)
+replay n (done tally x e) count j answers = under tally (cond (allFinite x && allFinite e) (ends x e clean) fails)

@@ -1,20 +1,21 @@
 -- The actions of exponentials on a vector. Definitions only.
 use Prim.Native.Nat.{ℕ, _+_, _-_}
-use mathlib.Core.Bool.{Bool, cond}
+use mathlib.Core.Bool.{cond}
 use mathlib.Core.List.{List, [], _∷_}
 use lib.Dec.{eqb, ltb}
 use lib.Ieee.{Float}
 use Rattle.loops.specs.Loop.{mat, _!_}
 use Rattle.float.specs.Arith.{_⊗_, zero+, one}
-use Rattle.matrix.specs.Matrix.{at, admitted, exponential}
+use Rattle.matrix.specs.Matrix.{at, exponential, reach}
 use Rattle.matrix.specs.Vector.{zeros, vec, matVec}
+use Rattle.matrix.specs.declared.Reach.{Reach}
 use Rattle.methods.specs.declared.Action.{Action}
 use Rattle.methods.specs.Vectors.{scale, axpy}
-use Rattle.methods.specs.Tally.{clean, joined}
+use Rattle.methods.specs.Tally.{clean, single, joined}
 
--- a vector that is worked out where the row sums are admitted, and is +0.0 where they are not
-unfoldable pub checked : Bool → List Float → Action
-checked ok x = record { tally = record { ok = ok }; v = cond ok x zeros }
+-- the vector of one exponential, with how far it went; +0.0 where it is not admitted
+unfoldable pub checked : Reach → List Float → Action
+checked r x = record { tally = single r; v = cond (r .ok) x zeros }
 
 -- f of the vector, with the same report
 unfoldable pub over : (List Float → List Float) → Action → Action
@@ -53,7 +54,7 @@ unfoldable pub phiAction : ℕ → List Float → Float → ℕ → List Float �
 phiAction n a scaleA order input =
     let size = n + order in
     let m = augmented n a scaleA order input in
-    checked (admitted m size) (vec n (λ i. at (exponential m size .entries) size i (size - 1)))
+    checked (reach m size) (vec n (λ i. at (exponential m size .entries) size i (size - 1)))
 
 -- phi_term: coefficient times the phi action
 unfoldable pub phiTerm : ℕ → List Float → Float → ℕ → Float → List Float → Action
@@ -63,4 +64,4 @@ phiTerm n a scaleA order coefficient input = over (λ v. scale n v coefficient) 
 unfoldable pub expAction : ℕ → List Float → Float → List Float → Action
 expAction n a scaleA input =
     let m = mat n (λ i j. scaleA ⊗ at a n i j) in
-    checked (admitted m n) (matVec n (exponential m n .entries) input)
+    checked (reach m n) (matVec n (exponential m n .entries) input)

@@ -1,6 +1,6 @@
 -- perform_step: the choice by number, and what stands around it. Definitions only.
 use Prim.Native.Nat.{ℕ}
-use mathlib.Core.Bool.{cond, _&&_}
+use mathlib.Core.Bool.{Bool, cond, _&&_}
 use mathlib.Core.List.{List, [], _∷_}
 use lib.Ieee.{Float}
 use lib.ListN.{getD}
@@ -10,8 +10,9 @@ use Rattle.methods.specs.declared.Kind.{Kind}
 use Rattle.methods.specs.declared.Kind.the-variants.{Question, Done}
 use Rattle.methods.specs.declared.Point.{Point}
 use Rattle.methods.specs.declared.StepResult.{StepResult}
+use Rattle.methods.specs.declared.Work.{Work}
 use Rattle.methods.specs.Vectors.{subtract}
-use Rattle.methods.specs.Tally.{unadmitted}
+use Rattle.methods.specs.Tally.{unadmitted, workOf}
 use Rattle.methods.specs.Pass.{Pass, done, Stand, fails, asks, ends, replay}
 use Rattle.methods.specs.Schemes.{lawsonEuler, norsettEuler, etdrk2, etdrk3, etdrk4, hochOst4, exp4}
 use Rattle.methods.specs.Schemes.{epirk4s3A, epirk4s3B, epirk5s3, exprb53s3, epirk5p1, epirk5p2, etd2, exprb32, exprb43}
@@ -43,21 +44,33 @@ pass k p a au nonlinear0 =
     ∷ exprb43 n a u t h f0 au
     ∷ []) k (done unadmitted zeros zeros)
 
--- how many questions the pass of scheme k asks
-unfoldable pub questions : ℕ → ℕ
-questions k = getD (0 ∷ 0 ∷ 1 ∷ 2 ∷ 3 ∷ 4 ∷ 2 ∷ 2 ∷ 2 ∷ 2 ∷ 2 ∷ 2 ∷ 2 ∷ 0 ∷ 1 ∷ 2 ∷ []) k 0
+-- how many questions the pass of each scheme asks
+abbrev pub questionTable : List ℕ
+questionTable = 0 ∷ 0 ∷ 1 ∷ 2 ∷ 3 ∷ 4 ∷ 2 ∷ 2 ∷ 2 ∷ 2 ∷ 2 ∷ 2 ∷ 2 ∷ 0 ∷ 1 ∷ 2 ∷ []
 
--- where a step stands: it is refused by 6, asks, or has ended in a candidate, an error vector and the nonlinear part f0 - a u
+-- that of scheme k; above 15 none
+unfoldable pub questions : ℕ → ℕ
+questions k = getD questionTable k 0
+
+-- how many exponentials it makes, as the Rust calls them, repeats counted; `held` says whether Etd2 has a previous nonlinear part
+abbrev pub exponentialTable : Bool → List ℕ
+exponentialTable held = 1 ∷ 1 ∷ 2 ∷ 9 ∷ 12 ∷ 34 ∷ 7 ∷ 5 ∷ 5 ∷ 8 ∷ 7 ∷ 5 ∷ 7 ∷ cond held 4 2 ∷ 3 ∷ 9 ∷ []
+
+-- that of scheme k; above 15 none
+unfoldable pub exponentials : ℕ → Bool → ℕ
+exponentials k held = getD (exponentialTable held) k 0
+
+-- where a step stands: it is refused by 6, asks, or has ended in a candidate, an error vector and the nonlinear part f0 - a u, with the work that it took
 pub data Progress : Type 0 where
   refused : Progress
   asking : List Float → Float → Progress
-  ended : List Float → List Float → List Float → Progress
+  ended : List Float → List Float → List Float → Work → Progress
 
 -- a pass's stand, with the nonlinear part
 unfoldable pub finish : List Float → Stand → Progress
 finish nonlinear0 fails = refused
 finish nonlinear0 (asks x t) = asking x t
-finish nonlinear0 (ends x e) = ended x e nonlinear0
+finish nonlinear0 (ends x e tally) = ended x e nonlinear0 (workOf tally)
 
 -- perform_step with the Jacobian a over `count` answers, the first of them answer j: a u and f0 - a u are tested before the scheme
 unfoldable pub performStep : ℕ → Point → List Float → ℕ → ℕ → List Float → Progress
@@ -67,9 +80,9 @@ performStep k p a count j answers =
     cond (allFinite au && allFinite nonlinear0) (finish nonlinear0 (replay (p .n) (pass k p a au nonlinear0) count j answers)) refused
 
 -- what the code's record says of it
-unfoldable pub progressKind : Kind → List Float → List Float → List Float → Progress
-progressKind (Question t) x e g = asking x t
-progressKind Done x e g = ended x e g
+unfoldable pub progressKind : Kind → List Float → List Float → List Float → Work → Progress
+progressKind (Question t) x e g work = asking x t
+progressKind Done x e g work = ended x e g work
 
 unfoldable pub progress : StepResult → Progress
-progress r = cond (r .ok) (progressKind (r .kind) (r .state) (r .error) (r .nonlinear)) refused
+progress r = cond (r .ok) (progressKind (r .kind) (r .state) (r .error) (r .nonlinear) (r .work)) refused

@@ -1,6 +1,7 @@
 // methods.rs: vectors, the actions of exponentials, and the parts of a pass, which is replayed over the
 // answers so far. The definitions of all sixteen schemes are here. Their code is in the crates
 // `lawson_etd`, `exp4_epirk` and `rosenbrock`, and perform_step in `schemes`.
+use matrix::Reach;
 ghost use mathlib.Core.Path.{_≡_};
 ghost use mathlib.Core.List.{[], _∷_};
 ghost use Prim.Native.Nat.{_+_, _-_, _*_, _≤_, _<_};
@@ -12,10 +13,11 @@ ghost use Rattle.matrix.specs.Vector.{vec, matVec};
 ghost use Rattle.methods.specs.Numbers.{num, minus};
 ghost use Rattle.methods.specs.Vectors.{Sized, add, subtract, scale, axpy, combine};
 ghost use Rattle.evaluation.specs.Sizes.{places, answersKept, answerRoom};
-ghost use Rattle.methods.specs.Tally.{tested, clean, unadmitted, joined};
+ghost use Rattle.methods.specs.Tally.{tested, clean, unadmitted, single, joined, workOf};
 ghost use Rattle.methods.specs.Phi.{over, more, nothing, augmentedEntry, phiAction, phiTerm, expAction};
-ghost use Rattle.methods.specs.Pass.{answer, asks, ends, under, stand};
-ghost use Rattle.methods.specs.Parts.{inputRow, rowsTo, chained, phiInto, admittedSum, inputAdmitted, ifWanted, mayAsk, mayEnd};
+ghost use Rattle.methods.specs.Pass.{answer, asks, ends, under};
+ghost use Rattle.methods.specs.Step.{refused, progress};
+ghost use Rattle.methods.specs.Parts.{inputRow, rowsTo, chained, phiInto, admittedSum, inputAdmitted, ifWanted, mayAsk, mayEnd, narrow, narrowed, narrowWork, in32, stand};
 
 // The places of a vector.
 pub const PLACES: usize = evaluation::PLACES;
@@ -30,9 +32,19 @@ pub const EXPRB43: u8 = 15;
 // A vector, +0.0 past the dimension.
 pub type Vector = [f64; PLACES];
 
-// What exponentials report: `ok` says that every row sum was admitted.
+// What exponentials report: `ok` says that every row sum was admitted; how many they are, and how many terms
+// and squarings they took.
 pub struct Tally {
     pub ok: bool,
+    pub exponentials: u32,
+    pub terms: u32,
+    pub squarings: u32,
+}
+
+// What is told of them at the end: how many they are, and their terms and squarings together.
+pub struct Work {
+    pub exponentials: u32,
+    pub products: u32,
 }
 
 // A vector that exponentials were worked out for, with what they report; +0.0 where one was not admitted.
@@ -59,7 +71,7 @@ pub enum Kind {
 }
 
 // Where a scheme's pass stands: the state that it asks about, or its candidate with the error vector.
-// The tally: every test on the way held.
+// The tally: every test on the way held, and what the exponentials took.
 pub struct Out {
     pub x: Vector,
     pub e: Vector,
@@ -67,13 +79,14 @@ pub struct Out {
     pub tally: Tally,
 }
 
-// The same of a whole step, with f0 - J u.
+// The same of a whole step, with f0 - J u and the work of its exponentials.
 pub struct StepResult {
     pub state: Vector,
     pub error: Vector,
     pub nonlinear: Vector,
     pub kind: Kind,
     pub ok: bool,
+    pub work: Work,
 }
 
 // ---- vectors
@@ -145,28 +158,63 @@ pub fn combine3(c1: f64, x1: Vector, c2: f64, x2: Vector, c3: f64, x3: Vector, n
 pub fn tested(ok: bool) -> Tally
     ensures { λ r. ⌜ r ≡ tested ok ⌝ }
 {
-    Tally { ok }
+    Tally {
+        ok,
+        exponentials: 0,
+        terms: 0,
+        squarings: 0,
+    }
 }
 
 // Nothing yet.
 pub fn clean() -> Tally
     ensures { λ r. ⌜ r ≡ clean ⌝ }
 {
-    Tally { ok: true }
+    tested(true)
 }
 
-// One that was not admitted.
+// A test that failed, of no exponential.
 pub fn unadmitted() -> Tally
     ensures { λ r. ⌜ r ≡ unadmitted ⌝ }
 {
-    Tally { ok: false }
+    tested(false)
 }
 
-// The exponentials of both.
-pub fn joined(x: Tally, y: Tally) -> Tally
-    ensures { λ r. ⌜ r ≡ joined x y ⌝ }
+// One exponential that went so far.
+fn single(r: Reach) -> Tally
+    ensures { λ t. ⌜ t ≡ single r ⌝ }
 {
-    Tally { ok: x.ok & y.ok }
+    Tally {
+        ok: r.ok,
+        exponentials: 1,
+        terms: r.terms,
+        squarings: r.squarings,
+    }
+}
+
+// The exponentials of both; their sums as 32 bits hold them.
+pub fn joined(x: Tally, y: Tally) -> Tally
+    ensures { λ r. ⌜ r ≡ narrow (joined x y) ⌝ }
+{
+    let exponentials = std::num::wrapping_add_u32(x.exponentials, y.exponentials);
+    let terms = std::num::wrapping_add_u32(x.terms, y.terms);
+    let squarings = std::num::wrapping_add_u32(x.squarings, y.squarings);
+    Tally {
+        ok: x.ok & y.ok,
+        exponentials,
+        terms,
+        squarings,
+    }
+}
+
+// A report with a test beside it.
+fn with_test(tally: Tally, good: bool) -> Tally
+    ensures { λ r. ⌜ r ≡ joined tally (tested good) ⌝ }
+{
+    Tally {
+        ok: tally.ok & good,
+        ..tally
+    }
 }
 
 // ---- the actions of exponentials
@@ -256,14 +304,16 @@ fn phi_into(
     ensures { λ r. ⌜ r ≡ phiInto n (now (a .entry)) «scale_a» input size column ⌝ }
 {
     augment(a, scale_a, input, n, m, size);
-    if matrix::matrix_exp(m, e, size) {
+    let reach = matrix::matrix_exp(m, e, size);
+    let tally = single(reach);
+    if reach.ok {
         Action {
-            tally: Tally { ok: true },
+            tally,
             v: column_of(e, size, column, n),
         }
     } else {
         Action {
-            tally: Tally { ok: false },
+            tally,
             v: [0.0; PLACES],
         }
     }
@@ -356,7 +406,7 @@ fn admitted_row(a: &[f64], scale_a: f64, input: f64, i: usize, n: usize) -> bool
     float::finite(sum) & (sum <= matrix::LIMIT)
 }
 
-// Whether the row sums of the augmented matrix are admitted: those of the rows below are 1 and +0.0.
+// The test alone, that the row sums of the augmented matrix are admitted: those of the rows below are 1 and +0.0.
 fn phi_tally(a: &[f64], scale_a: f64, input: Vector, n: usize) -> Tally
     requires { ⌜ Sized n (now a) ⌝ }
     ensures { λ r. ⌜ r ≡ tested (inputAdmitted n (now (a .entry)) «scale_a» input) ⌝ }
@@ -368,7 +418,7 @@ fn phi_tally(a: &[f64], scale_a: f64, input: Vector, n: usize) -> Tally
     tested(ok)
 }
 
-// The phi action where it is wanted; otherwise what it reports, alone.
+// The phi action where it is wanted; otherwise whether it is admitted, alone.
 pub fn phi_if(
     wanted: bool,
     a: &[f64],
@@ -451,14 +501,16 @@ fn exp_into(
     ensures { λ r. ⌜ r ≡ expAction n (now (a .entry)) «scale_a» input ⌝ }
 {
     scale_matrix(a, scale_a, m, n);
-    if matrix::matrix_exp(m, e, n) {
+    let reach = matrix::matrix_exp(m, e, n);
+    let tally = single(reach);
+    if reach.ok {
         Action {
-            tally: Tally { ok: true },
+            tally,
             v: matrix::mat_vec(e, input, n),
         }
     } else {
         Action {
-            tally: Tally { ok: false },
+            tally,
             v: [0.0; PLACES],
         }
     }
@@ -555,7 +607,7 @@ pub fn scaled(k: Action, factor: f64, n: usize) -> Action
 // sum plus factor times k.
 pub fn more(sum: Action, factor: f64, k: Action, n: usize) -> Action
     requires { ⌜ n ≤ 16 ⌝ }
-    ensures { λ r. ⌜ r ≡ more n sum factor k ⌝ }
+    ensures { λ r. ⌜ r ≡ narrowed (more n sum factor k) ⌝ }
 {
     let tally = joined(sum.tally, k.tally);
     let v = sum.v;
@@ -589,7 +641,7 @@ pub fn add_term(
 ) -> Action
     requires { ⌜ Sized n (now a) ⌝ }
     requires { ⌜ (1 ≤ order) × (order ≤ 4) ⌝ }
-    ensures { λ r. ⌜ r ≡ more n sum factor (phiTerm n (now (a .entry)) «scale_a» order coefficient input) ⌝ }
+    ensures { λ r. ⌜ r ≡ narrowed (more n sum factor (phiTerm n (now (a .entry)) «scale_a» order coefficient input)) ⌝ }
 {
     more(
         sum,
@@ -655,13 +707,12 @@ pub fn remainder(
 pub fn may_ask(tally: Tally, x: Vector, time: f64) -> Tally
     ensures { λ r. ⌜ r ≡ mayAsk tally x time ⌝ }
 {
-    let good = evaluation::all_finite(&x) & float::finite(time);
-    joined(tally, tested(good))
+    with_test(tally, evaluation::all_finite(&x) & float::finite(time))
 }
 
 // A question that is open.
 pub fn asked(tally: Tally, x: Vector, time: f64) -> Out
-    ensures { λ r. ⌜ stand r ≡ under tally (asks x time) ⌝ }
+    ensures { λ r. ⌜ stand r ≡ in32 (under tally (asks x time)) ⌝ }
 {
     Out {
         tally,
@@ -673,14 +724,41 @@ pub fn asked(tally: Tally, x: Vector, time: f64) -> Out
 
 // The end, with the tests of the candidate and the error vector.
 pub fn ended(tally: Tally, x: Vector, e: Vector) -> Out
-    ensures { λ r. ⌜ stand r ≡ under (mayEnd tally x e) (ends x e) ⌝ }
+    ensures { λ r. ⌜ stand r ≡ in32 (under (mayEnd tally x e) (ends x e clean)) ⌝ }
 {
     let good = evaluation::all_finite(&x) & evaluation::all_finite(&e);
-    let tally = joined(tally, tested(good));
+    let tally = with_test(tally, good);
     Out {
         tally,
         kind: Kind::Done,
         x,
         e,
+    }
+}
+
+// What is told of a pass's exponentials; the sum as 32 bits hold it.
+pub fn work_of(tally: Tally) -> Work
+    ensures { λ r. ⌜ r ≡ narrowWork (workOf tally) ⌝ }
+{
+    Work {
+        exponentials: tally.exponentials,
+        products: std::num::wrapping_add_u32(tally.terms, tally.squarings),
+    }
+}
+
+// A step that is refused by 6.
+pub fn not_allowed() -> StepResult
+    ensures { λ r. ⌜ progress r ≡ refused ⌝ }
+{
+    StepResult {
+        ok: false,
+        kind: Kind::Done,
+        state: [0.0; PLACES],
+        error: [0.0; PLACES],
+        nonlinear: [0.0; PLACES],
+        work: Work {
+            exponentials: 0,
+            products: 0,
+        },
     }
 }

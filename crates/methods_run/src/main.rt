@@ -1,7 +1,8 @@
 // Replays the oracle's list for the schemes. A record of standard input is scheme, dimension n, whether
 // there is a history and how many answers there are, a byte each; then time, step, state, derivative,
 // Jacobian, history and answers as doubles. The reply is byte 0 (refused by 6); or 1, the asked time and
-// state; or 2, the candidate, whether there is an error, a byte, the error, and f0 - J u.
+// state; or 2, how many exponentials were made and the matrix products that they took, as u32, the candidate,
+// whether there is an error, a byte, the error, and f0 - J u.
 use methods::Kind;
 use methods::Point;
 use methods::StepResult;
@@ -49,6 +50,12 @@ fn write_byte(x: u8) {
     io::write_all(1, &bytes);
 }
 
+fn write_count(x: u32) {
+    let mut bytes = [0u8; 4];
+    wire::write_u32(&mut bytes, 0, x);
+    io::write_all(1, &bytes);
+}
+
 fn write_double(x: f64) {
     let mut bytes = [0u8; 8];
     wire::write_f64(&mut bytes, 0, x);
@@ -69,7 +76,10 @@ fn write_end(scheme: u8, r: StepResult, n: usize)
     let candidate = r.state;
     let error = r.error;
     let nonlinear = r.nonlinear;
+    let work = r.work;
     write_byte(2);
+    write_count(work.exponentials);
+    write_count(work.products);
     write_vector(candidate, n);
     if scheme >= 14 {
         write_byte(1);

@@ -1,7 +1,7 @@
 // methods.rs: the exponential Rosenbrock schemes exprb32, exprb43 and exprb53s3; the first two have an
 // error vector. A pass is replayed over the answers so far: a scheme works out the state of its first
 // question, and a function for each question takes the pass up there. A phi action that the question to
-// come does not use gives its report alone.
+// come does not use is only tested.
 use methods::Out;
 use methods::PLACES;
 use methods::Point;
@@ -27,7 +27,8 @@ ghost use mathlib.Core.Path.{_≡_};
 ghost use Prim.Native.Nat.{_+_, _-_, _≤_};
 ghost use Rattle.matrix.specs.Vector.{matVec};
 ghost use Rattle.methods.specs.Given.{Given};
-ghost use Rattle.methods.specs.Pass.{under, replay, stand};
+ghost use Rattle.methods.specs.Pass.{under, replay};
+ghost use Rattle.methods.specs.Parts.{in32, stand};
 ghost use Rattle.methods.specs.Schemes.{exprb32, exprb43, exprb53s3};
 ghost use Rattle.rosenbrock.specs.Stages.{exprb32·2, exprb43·2, exprb43·3, exprb53s3·2, exprb53s3·3};
 
@@ -36,7 +37,7 @@ ghost use Rattle.rosenbrock.specs.Stages.{exprb32·2, exprb43·2, exprb4
 pub fn exprb32(p: Point, a: &[f64], au: Vector, answers: &[f64], first: usize, count: usize) -> Out
     requires { ⌜ Given (p .n) (now a) (now answers) first ⌝ }
     requires { ⌜ au ≡ matVec (p .n) (now a) (p .state) ⌝ }
-    ensures { λ r. ⌜ stand r ≡ replay (p .n) (exprb32 (p .n) (now (a .entry)) (p .state) (p .time) (p .step) (p .f0)) count first (now (answers .entry)) ⌝ }
+    ensures { λ r. ⌜ stand r ≡ in32 (replay (p .n) (exprb32 (p .n) (now (a .entry)) (p .state) (p .time) (p .step) (p .f0)) count first (now (answers .entry))) ⌝ }
 {
     let n = p.n;
     let h = p.step;
@@ -60,7 +61,7 @@ fn exprb32_2(
     u2: Vector,
 ) -> Out
     requires { ⌜ Given (p .n) (now a) (now answers) first ⌝ }
-    ensures { λ r. ⌜ stand r ≡ under tally (replay (p .n) (exprb32·2 p (now (a .entry)) au w1 u2) count first (now (answers .entry))) ⌝ }
+    ensures { λ r. ⌜ stand r ≡ in32 (under tally (replay (p .n) (exprb32·2 p (now (a .entry)) au w1 u2) count first (now (answers .entry)))) ⌝ }
 {
     let n = p.n;
     let t = p.time;
@@ -89,7 +90,7 @@ fn exprb32_2(
 
 pub fn exprb43(p: Point, a: &[f64], au: Vector, answers: &[f64], first: usize, count: usize) -> Out
     requires { ⌜ Given (p .n) (now a) (now answers) first ⌝ }
-    ensures { λ r. ⌜ stand r ≡ replay (p .n) (exprb43 (p .n) (now (a .entry)) (p .state) (p .time) (p .step) (p .f0) au) count first (now (answers .entry)) ⌝ }
+    ensures { λ r. ⌜ stand r ≡ in32 (replay (p .n) (exprb43 (p .n) (now (a .entry)) (p .state) (p .time) (p .step) (p .f0) au) count first (now (answers .entry))) ⌝ }
 {
     let n = p.n;
     let h = p.step;
@@ -123,7 +124,7 @@ fn exprb43_2(
     u2: Vector,
 ) -> Out
     requires { ⌜ Given (p .n) (now a) (now answers) first ⌝ }
-    ensures { λ r. ⌜ stand r ≡ under tally (replay (p .n) (exprb43·2 p (now (a .entry)) au w11 w13 w14 u2) count first (now (answers .entry))) ⌝ }
+    ensures { λ r. ⌜ stand r ≡ in32 (under tally (replay (p .n) (exprb43·2 p (now (a .entry)) au w11 w13 w14 u2) count first (now (answers .entry)))) ⌝ }
 {
     let n = p.n;
     let t = p.time;
@@ -177,7 +178,7 @@ fn exprb43_3(
 ) -> Out
     requires { ⌜ Given (p .n) (now a) (now answers) first ⌝ }
     requires { ⌜ 1 ≤ count ⌝ }
-    ensures { λ r. ⌜ stand r ≡ under tally (replay (p .n) (exprb43·3 p (now (a .entry)) au w11 w13 w14 w23 w24 u3) (count - 1) (first + 1) (now (answers .entry))) ⌝ }
+    ensures { λ r. ⌜ stand r ≡ in32 (under tally (replay (p .n) (exprb43·3 p (now (a .entry)) au w11 w13 w14 w23 w24 u3) (count - 1) (first + 1) (now (answers .entry)))) ⌝ }
 {
     let n = p.n;
     let t = p.time;
@@ -210,7 +211,7 @@ fn exprb43_3(
 
 pub fn exprb53s3(p: Point, a: &[f64], answers: &[f64], first: usize, count: usize) -> Out
     requires { ⌜ Given (p .n) (now a) (now answers) first ⌝ }
-    ensures { λ r. ⌜ stand r ≡ replay (p .n) (exprb53s3 (p .n) (now (a .entry)) (p .state) (p .time) (p .step) (p .f0)) count first (now (answers .entry)) ⌝ }
+    ensures { λ r. ⌜ stand r ≡ in32 (replay (p .n) (exprb53s3 (p .n) (now (a .entry)) (p .state) (p .time) (p .step) (p .f0)) count first (now (answers .entry))) ⌝ }
 {
     let n = p.n;
     let h = p.step;
@@ -236,7 +237,7 @@ fn exprb53s3_2(
     u2: Vector,
 ) -> Out
     requires { ⌜ Given (p .n) (now a) (now answers) first ⌝ }
-    ensures { λ r. ⌜ stand r ≡ under tally (replay (p .n) (exprb53s3·2 p (now (a .entry)) k3base u2) count first (now (answers .entry))) ⌝ }
+    ensures { λ r. ⌜ stand r ≡ in32 (under tally (replay (p .n) (exprb53s3·2 p (now (a .entry)) k3base u2) count first (now (answers .entry)))) ⌝ }
 {
     let n = p.n;
     let t = p.time;
@@ -269,7 +270,7 @@ fn exprb53s3_3(
 ) -> Out
     requires { ⌜ Given (p .n) (now a) (now answers) first ⌝ }
     requires { ⌜ 1 ≤ count ⌝ }
-    ensures { λ r. ⌜ stand r ≡ under tally (replay (p .n) (exprb53s3·3 p (now (a .entry)) r2 u3) (count - 1) (first + 1) (now (answers .entry))) ⌝ }
+    ensures { λ r. ⌜ stand r ≡ in32 (under tally (replay (p .n) (exprb53s3·3 p (now (a .entry)) r2 u3) (count - 1) (first + 1) (now (answers .entry)))) ⌝ }
 {
     let n = p.n;
     let t = p.time;

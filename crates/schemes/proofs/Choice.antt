@@ -11,8 +11,8 @@ use lib.ListN.{List·getD-eq-default}
 use Rattle.matrix.specs.Vector.{zeros}
 use Rattle.methods.specs.declared.Point.{Point}
 use Rattle.methods.specs.declared.Tally.{Tally}
-use Rattle.methods.specs.Tally.{unadmitted, joined}
-use Rattle.methods.specs.Parts.{mayEnd}
+use Rattle.methods.specs.Tally.{tested, clean, unadmitted, joined}
+use Rattle.methods.specs.Parts.{mayEnd, in32}
 use Rattle.methods.specs.Pass.{Stand, ends, done, under, replay}
 use Rattle.methods.specs.Step.{pass}
 
@@ -44,8 +44,8 @@ past k b (suc n) h r = let e : b + suc n ≡ suc (b + n) = omega arith in rw e (
 -- above 15 there is none
 pub no-scheme : (S : Stand) (t : Tally) (k : ℕ) (p : Point) (a au g : List Float) (c j : ℕ) (r : List Float)
     → (6 ≤ k) × (k ≡ 13 → ⊥) → (Avoids k 6 7 × (k ≡ 14 → ⊥)) × (k ≡ 15 → ⊥)
-    → t ≡ unadmitted → S ≡ under (mayEnd t zeros zeros) (ends zeros zeros) → S ≡ replay (p .n) (pass k p a au g) c j r
-unfolding pass replay under mayEnd unadmitted joined
+    → t ≡ unadmitted → S ≡ in32 (under (mayEnd t zeros zeros) (ends zeros zeros clean)) → S ≡ in32 (replay (p .n) (pass k p a au g) c j r)
+unfolding pass replay under mayEnd unadmitted tested joined
 no-scheme S t k p a au g c j r h rest e s =
     let l : 13 ≤ k = past k 6 7 (h .0) (rest .0 .0) in
     let m : 16 ≤ k = next k 15 (next k 14 (next k 13 l (h .1)) (rest .0 .1)) (rest .1) in

@@ -12,15 +12,16 @@ use lawson_etd::etdrk4;
 use lawson_etd::hoch_ost4;
 use lawson_etd::lawson_euler;
 use lawson_etd::norsett_euler;
-use methods::Kind;
 use methods::Out;
 use methods::PLACES;
 use methods::Point;
 use methods::StepResult;
 use methods::Vector;
 use methods::ended;
+use methods::not_allowed;
 use methods::subtract;
 use methods::unadmitted;
+use methods::work_of;
 use rosenbrock::exprb32;
 use rosenbrock::exprb43;
 use rosenbrock::exprb53s3;
@@ -30,7 +31,8 @@ ghost use Prim.Native.Nat.{_≤_};
 ghost use lib.Ieee.{Float};
 ghost use Rattle.matrix.specs.Vector.{matVec};
 ghost use Rattle.methods.specs.Given.{Given};
-ghost use Rattle.methods.specs.Pass.{replay, stand};
+ghost use Rattle.methods.specs.Pass.{replay};
+ghost use Rattle.methods.specs.Parts.{in32, countedIn32, stand};
 ghost use Rattle.methods.specs.Step.{pass, questions, finish, performStep, progress};
 
 // The pass of a Lawson or ETD scheme: 0 to 5, and 13.
@@ -46,7 +48,7 @@ fn lawson_etd_pass(
 ) -> Out
     requires { ⌜ Given (p .n) (now a) (now answers) first ⌝ }
     requires { ⌜ (6 ≤ scheme → scheme ≡ 13) ⌝ }
-    ensures { λ r. ⌜ stand r ≡ replay (p .n) (pass scheme p (now (a .entry)) au g) count first (now (answers .entry)) ⌝ }
+    ensures { λ r. ⌜ stand r ≡ in32 (replay (p .n) (pass scheme p (now (a .entry)) au g) count first (now (answers .entry))) ⌝ }
 {
     let n = p.n;
     let h = p.step;
@@ -77,7 +79,7 @@ fn other_pass(
     requires { ⌜ Given (p .n) (now a) (now answers) first ⌝ }
     requires { ⌜ au ≡ matVec (p .n) (now a) (p .state) ⌝ }
     requires { ⌜ (6 ≤ scheme) × (scheme ≡ 13 → ⊥) ⌝ }
-    ensures { λ r. ⌜ ((g : List Float) → stand r ≡ replay (p .n) (pass scheme p (now (a .entry)) au g) count first (now (answers .entry))) ⌝ }
+    ensures { λ r. ⌜ ((g : List Float) → stand r ≡ in32 (replay (p .n) (pass scheme p (now (a .entry)) au g) count first (now (answers .entry)))) ⌝ }
 {
     match scheme {
         6 => exp4(p, a, answers, first, count),
@@ -106,7 +108,7 @@ fn chosen(
 ) -> Out
     requires { ⌜ Given (p .n) (now a) (now answers) first ⌝ }
     requires { ⌜ au ≡ matVec (p .n) (now a) (p .state) ⌝ }
-    ensures { λ r. ⌜ stand r ≡ replay (p .n) (pass scheme p (now (a .entry)) au g) count first (now (answers .entry)) ⌝ }
+    ensures { λ r. ⌜ stand r ≡ in32 (replay (p .n) (pass scheme p (now (a .entry)) au g) count first (now (answers .entry))) ⌝ }
 {
     if (scheme < 6) | (scheme == 13) {
         lawson_etd_pass(scheme, p, a, au, g, answers, first, count)
@@ -126,9 +128,9 @@ pub fn questions(scheme: u8) -> usize
     0
 }
 
-// A pass's stand, with the nonlinear part.
+// A pass's stand, with the nonlinear part, and the work that it took as 32 bits hold it.
 fn finished(o: Out, nonlinear: Vector) -> StepResult
-    ensures { λ r. ⌜ progress r ≡ finish nonlinear (stand o) ⌝ }
+    ensures { λ r. ⌜ progress r ≡ countedIn32 (finish nonlinear (stand o)) ⌝ }
 {
     let tally = o.tally;
     let kind = o.kind;
@@ -140,6 +142,7 @@ fn finished(o: Out, nonlinear: Vector) -> StepResult
         state,
         error,
         nonlinear,
+        work: work_of(tally),
     }
 }
 
@@ -167,11 +170,5 @@ pub fn perform_step(
             nonlinear0,
         );
     }
-    StepResult {
-        ok: false,
-        kind: Kind::Done,
-        state: [0.0; PLACES],
-        error: [0.0; PLACES],
-        nonlinear: nonlinear0,
-    }
+    not_allowed()
 }

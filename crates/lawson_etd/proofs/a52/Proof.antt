@@ -2,6 +2,7 @@
 use Rattle.methods.specs.Numbers.{numbers}
 use Rattle.methods.specs.Phi.{combineAll, moreAll}
 use Rattle.lawson_etd.specs.Stages.{a52Of}
+use Rattle.methods.proofs.Tallies.{more-onto}
 use Rattle.lawson_etd.proofs.a52.Statement.{statement}
 use Rattle.lawson_etd.proofs.a52.Tie as tie
 
@@ -12,7 +13,10 @@ returns c =
     let at-more2 = at-more3 .before in
     let at-more = at-more2 .before in
     let at-nothing = at-more .before in
-    rw (c .more4 .ensures, at-more3 .more3 .ensures, at-more2 .more2 .ensures, at-more .more .ensures, at-nothing .nothing .ensures)
+    let k1 = rw (at-nothing .nothing .ensures) at (at-more .more .ensures) in
+    let k2 = more-onto _ _ _ _ _ _ k1 (at-more2 .more2 .ensures) in
+    let k3 = more-onto _ _ _ _ _ _ k2 (at-more3 .more3 .ensures) in
+    more-onto _ _ _ _ _ _ k3 (c .more4 .ensures)
 
 pub a52-spec : {M : Type 1} → statement M
 a52-spec =

@@ -2,6 +2,7 @@
 use Rattle.methods.specs.Numbers.{numbers}
 use Rattle.methods.specs.Phi.{combineAll, moreAll}
 use Rattle.lawson_etd.specs.Stages.{a54Of}
+use Rattle.methods.proofs.Tallies.{more-onto}
 use Rattle.lawson_etd.proofs.a54.Statement.{statement}
 use Rattle.lawson_etd.proofs.a54.Tie as tie
 
@@ -10,7 +11,7 @@ unfolding numbers combineAll moreAll a54Of
 returns c =
     let at-more = c .before in
     let at-nothing = at-more .before in
-    rw (c .more2 .ensures, at-more .more .ensures, at-nothing .nothing .ensures)
+    more-onto _ _ _ _ _ _ (rw (at-nothing .nothing .ensures) at (at-more .more .ensures)) (c .more2 .ensures)
 
 pub a54-spec : {M : Type 1} → statement M
 a54-spec =

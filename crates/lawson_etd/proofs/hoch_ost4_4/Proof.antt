@@ -4,7 +4,7 @@ use mathlib.Core.Path.{refl, ap, _∙_}
 use Rattle.methods.specs.Numbers.{numbers}
 use Rattle.lawson_etd.specs.Stages.{hochOst4·4, sum5}
 use Rattle.methods.specs.Vectors.{add}
-use Rattle.methods.proofs.Lines.{go-on, at-once, reported, open-line, first-over, next-part, part-now, summed, answered-line, handed-later}
+use Rattle.methods.proofs.Lines.{go-on, at-once, reported, open-line, first-over, next-plain, next-part, part-now, summed, answered-line, handed-later}
 use Rattle.methods.proofs.Requires.{order-2, order-3, answer-2}
 use Rattle.lawson_etd.proofs.hoch_ost4_4.Statement.{statement}
 use Rattle.lawson_etd.proofs.hoch_ost4_4.Tie as tie
@@ -46,10 +46,10 @@ returns-2 c =
     go-on _ _ _ _ _ _
     (answered-line _ _ _ _ _ _ _ (at-may-ask .may-ask .ensures) (omega (arith, at-if1 .if1 .left, entry .pre)) (at-shifted-stage .shifted-stage .ensures) refl
     (first-over _ _ _ _ _ (entry .pre .1 .1 .0 .0) refl
-    (next-part _ _ _ _ (refl)
-    (next-part _ _ _ _ (refl)
+    (next-plain _ _ _ _ (refl)
+    (next-plain _ _ _ _ (refl)
     (part-now _ _ _ (at-add .add .ensures)
-    (next-part _ _ _ _ (refl)
+    (next-plain _ _ _ _ (refl)
     (next-part _ _ _ _ (at-hoch-ost4-sum .hoch-ost4-sum .ensures)
     (summed _ _
     (reported _ (at-joined .joined .ensures)

@@ -2,6 +2,7 @@
 use Rattle.methods.specs.Numbers.{numbers}
 use Rattle.lawson_etd.specs.Stages.{sum5}
 use Rattle.lawson_etd.proofs.HochOst.{a52-made, a54-made}
+use Rattle.methods.proofs.Tallies.{more-of, more-both}
 use Rattle.methods.proofs.Requires.{order-2, order-3}
 use Rattle.lawson_etd.proofs.hoch_ost4_sum.Statement.{statement}
 use Rattle.lawson_etd.proofs.hoch_ost4_sum.Tie as tie
@@ -38,8 +39,10 @@ returns c =
     let g52 = a52-made _ _ _ _ _ (at-phi-term2 .phi-term2 .ensures) _ _ _ _ (entry .pre .1 .1 .1) (entry .pre .1 .1 .0) (at-phi-term3 .phi-term3 .ensures)
     (at-a522 .a522 .ensures) in
     let g54 = a54-made _ _ _ _ _ (at-phi-term2 .phi-term2 .ensures) _ _ g52 (at-a542 .a542 .ensures) in
-    rw (at-more3 .more3 .ensures, at-more2 .more2 .ensures, at-more .more .ensures, at-scaled .scaled .ensures, at-a52-of .a52-of .ensures, e52, e54, g54)
-    at (c .more4 .ensures)
+    let k1 = rw (at-scaled .scaled .ensures) at (more-of _ _ _ _ _ _ e52 (at-more .more .ensures)) in
+    let k2 = more-both _ _ _ _ _ _ _ k1 e54 (at-more2 .more2 .ensures) in
+    let k3 = more-both _ _ _ _ _ _ _ k2 (at-a52-of .a52-of .ensures) (at-more3 .more3 .ensures) in
+    more-both _ _ _ _ _ _ _ k3 g54 (c .more4 .ensures)
 
 pub hoch-ost4-sum-spec : {M : Type 1} → statement M
 hoch-ost4-sum-spec =

@@ -1,4 +1,4 @@
--- `methods::add_term`: a call after the other. Assumes nothing.
+-- `methods::add_term` meets its contract. Assumes nothing.
 use Rattle.methods.proofs.add_term.Statement.{statement}
 use Rattle.methods.proofs.add_term.Tie as tie
 
@@ -6,6 +6,12 @@ pub add-term-spec : {M : Type 1} → statement M
 add-term-spec =
     tie.close
     (tie.spec
-    (λ c κs. c .before .pre)
-    (λ c κs. c .before .before .pre .0 .small)
-    (λ c. rw (c .more .ensures, c .before .phi-term .ensures)))
+    (λ c κs.
+    let c1 = c .before in
+    c1 .pre)
+    (λ c κs.
+    let c2 = c .before .before in
+    c2 .pre .0 .small)
+    (λ c.
+    let c1 = c .before in
+    rw (c .more .ensures, c1 .phi-term .ensures)))

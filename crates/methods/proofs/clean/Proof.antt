@@ -1,5 +1,5 @@
--- `methods::clean`: the record as it is made. Assumes nothing.
-use mathlib.Core.Path.{refl}
+-- `methods::clean` meets its contract. Assumes nothing.
+use borrow.Author.Needs.{needs}
 use Rattle.methods.specs.Tally.{clean}
 use Rattle.methods.proofs.clean.Statement.{statement}
 use Rattle.methods.proofs.clean.Tie as tie
@@ -9,4 +9,5 @@ unfolding clean
 clean-spec =
     tie.close
     (tie.spec
-    (λ c. refl))
+    (λ c κs. search needs)
+    (λ c. c .tested .ensures))

@@ -1,17 +1,8 @@
--- `methods::ended`: a call after the other. Assumes nothing.
+-- `methods::ended` meets its contract. Assumes nothing.
 use borrow.Author.Needs.{needs}
-use Rattle.methods.specs.Parts.{mayEnd}
-use Rattle.methods.specs.Pass.{stand, standKind}
+use Rattle.methods.specs.Parts.{mayEnd, stand, standKind}
 use Rattle.methods.proofs.ended.Statement.{statement}
 use Rattle.methods.proofs.ended.Tie as tie
-
-returns : tie.Need-returns
-unfolding mayEnd stand standKind
-returns c =
-    let at-tested = c .before in
-    let at-all-finite2 = at-tested .before in
-    let at-all-finite = at-all-finite2 .before .before in
-    rw (c .joined .ensures, at-tested .tested .ensures, at-all-finite .all-finite .ensures, at-all-finite2 .all-finite2 .ensures)
 
 pub ended-spec : {M : Type 1} → statement M
 unfolding mayEnd stand standKind
@@ -19,9 +10,11 @@ ended-spec =
     tie.close
     (tie.spec
     (λ c. search needs)
-    (λ c κs. tt)
+    (λ c κs. search needs)
     (λ c. search needs)
-    (λ c κs. tt)
-    (λ c κs. tt)
-    (λ c κs. tt)
-    returns)
+    (λ c κs. search needs)
+    (λ c κs. search needs)
+    (λ c.
+    let c1 = c .before in
+    let c3 = c1 .before .before in
+    rw (c .with-test .ensures, c3 .all-finite .ensures, c1 .all-finite2 .ensures)))

@@ -1,4 +1,4 @@
--- `methods::phi_into`: the matrix is admitted or not. Assumes nothing.
+-- `methods::phi_into` meets its contract. Assumes nothing.
 use borrow.Author.Needs.{needs}
 use mathlib.Core.Path.{ap, _∙_}
 use lib.ListN.{length}
@@ -20,20 +20,23 @@ phi-into-spec =
     let c9 = c8 .before in
     (c9 .pre .1 .0 .2, (ap length (c4 .augment .ensures) ∙ length-mat _ _, c9 .pre .1 .1 .1)))
     (λ c κs. search needs)
+    (λ c κs. search needs)
     (λ c. search needs)
     (λ c. search needs)
     (λ c.
     let c2 = c .before .before in
-    let c6 = c2 .before .before .before .before in
-    let c7 = c6 .before in
-    let c11 = c7 .before .before .before .before in
-    let c12 = c11 .before in
-    phi-ok _ _ _ _ _ _ _ _ _ _ _ _ (c12 .augment .ensures) (c7 .matrix-exp .ensures) (c2 .if1 .taken) (c .column-of .ensures))
+    let c3 = c2 .before in
+    let c7 = c3 .before .before .before .before in
+    let c8 = c7 .before in
+    let c12 = c8 .before .before .before .before in
+    let c13 = c12 .before in
+    phi-ok _ _ _ _ _ _ _ _ _ _ _ _ _ (c13 .augment .ensures) (c8 .matrix-exp .ensures) (c2 .if1 .taken) (c3 .single .ensures) (c .column-of .ensures))
     (λ c. search needs)
     (λ c. search needs)
     (λ c.
-    let c4 = c .before .before .before .before in
-    let c5 = c4 .before in
-    let c9 = c5 .before .before .before .before in
-    let c10 = c9 .before in
-    phi-bad _ _ _ _ _ _ _ _ _ _ _ (c10 .augment .ensures) (c5 .matrix-exp .ensures) (c .if1 .left)))
+    let c1 = c .before in
+    let c5 = c1 .before .before .before .before in
+    let c6 = c5 .before in
+    let c10 = c6 .before .before .before .before in
+    let c11 = c10 .before in
+    phi-bad _ _ _ _ _ _ _ _ _ _ _ _ (c11 .augment .ensures) (c6 .matrix-exp .ensures) (c .if1 .left) (c1 .single .ensures)))

@@ -1,5 +1,5 @@
--- `methods::unadmitted`: the record as it is made. Assumes nothing.
-use mathlib.Core.Path.{refl}
+-- `methods::unadmitted` meets its contract. Assumes nothing.
+use borrow.Author.Needs.{needs}
 use Rattle.methods.specs.Tally.{unadmitted}
 use Rattle.methods.proofs.unadmitted.Statement.{statement}
 use Rattle.methods.proofs.unadmitted.Tie as tie
@@ -9,4 +9,5 @@ unfolding unadmitted
 unadmitted-spec =
     tie.close
     (tie.spec
-    (λ c. refl))
+    (λ c κs. search needs)
+    (λ c. c .tested .ensures))

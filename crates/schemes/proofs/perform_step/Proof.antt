@@ -1,57 +1,49 @@
--- `schemes::perform_step`: the two tests, and the scheme. Assumes nothing.
+-- `schemes::perform_step`: the two tests, and the scheme, whose counts fit 32 bits. Assumes nothing.
 use borrow.Author.Needs.{needs}
-use Rattle.methods.specs.Step.{performStep, progress}
+use mathlib.Core.Path.{_∙_}
+use Rattle.methods.specs.Step.{performStep}
 use Rattle.methods.proofs.Requires.{matrix-of}
+use Rattle.methods.proofs.Shape.{step-fits}
 use Rattle.schemes.proofs.perform_step.Statement.{statement}
 use Rattle.schemes.proofs.perform_step.Tie as tie
 
--- the entry, from later places
-abbrev start-f0 : tie.After-f0 → tie.Start
-start-f0 c = c .before .before .before .before
-
-abbrev start-all-finite : tie.After-all-finite → tie.Start
-start-all-finite c = start-f0 (c .before .before .before .before)
-
 pub perform-step-spec : {M : Type 1} → statement M
-unfolding performStep progress
+unfolding performStep
 perform-step-spec =
     tie.close
     (tie.spec
-    (λ c κs. matrix-of (c .before .before .before .before .pre .sized))
-    (λ c κs. start-f0 (c .before) .pre .sized .small)
-    (λ c. search needs)
-    (λ c κs. tt)
-    (λ c. search needs)
-    (λ c κs. tt)
     (λ c κs.
-    let at-au = c .before .before .before .before in
-    let at-mat-vec = at-au .before .before in
-    (start-all-finite (c .before .before .before) .pre, at-mat-vec .mat-vec .ensures))
-    (λ c κs. tt)
+    let c4 = c .before .before .before .before in
+    matrix-of (c4 .pre .sized))
+    (λ c κs.
+    let c4 = c .before .before .before .before in
+    let c5 = c4 .before in
+    c5 .pre .sized .small)
+    (λ c. search needs)
+    (λ c κs. search needs)
+    (λ c. search needs)
+    (λ c κs. search needs)
+    (λ c κs.
+    let c4 = c .before .before .before .before in
+    let c6 = c4 .before .before in
+    let c10 = c6 .before .before .before .before in
+    let c11 = c10 .before in
+    (c11 .pre, c6 .mat-vec .ensures))
+    (λ c κs. search needs)
     (λ c.
-    let at-chosen = c .before in
-    let at-if1 = at-chosen .before in
-    let at-all-finite2 = at-if1 .before in
-    let at-all-finite = at-all-finite2 .before .before in
-    let at-subtract = at-all-finite .before .before in
-    let at-mat-vec = at-subtract .before in
-    rw (
-      ← (at-mat-vec .mat-vec .ensures),
-      ← (at-subtract .subtract .ensures),
-      ← (at-all-finite .all-finite .ensures),
-      ← (at-all-finite2 .all-finite2 .ensures),
-      at-if1 .if1 .taken,
-      ← (at-chosen .chosen .ensures),
-    ) (c .finished .ensures))
+    let c1 = c .before in
+    let c2 = c1 .before in
+    let c3 = c2 .before in
+    let c5 = c3 .before .before in
+    let c7 = c5 .before .before in
+    let c8 = c7 .before in
+    rw (← (c8 .mat-vec .ensures), ← (c7 .subtract .ensures), ← (c5 .all-finite .ensures), ← (c3 .all-finite2 .ensures), c2 .if1 .taken)
+    ((rw (c1 .chosen .ensures) at (c .finished .ensures)) ∙ step-fits _ _ _ _ _ _ _ _ _))
+    (λ c κs. search needs)
     (λ c.
-    let at-all-finite2 = c .before in
-    let at-all-finite = at-all-finite2 .before .before in
-    let at-subtract = at-all-finite .before .before in
-    let at-mat-vec = at-subtract .before in
-    rw (
-      ← (at-mat-vec .mat-vec .ensures),
-      ← (at-subtract .subtract .ensures),
-      ← (at-all-finite .all-finite .ensures),
-      ← (at-all-finite2 .all-finite2 .ensures),
-      c .if1 .left,
-    )))
+    let c1 = c .before in
+    let c2 = c1 .before in
+    let c4 = c2 .before .before in
+    let c6 = c4 .before .before in
+    let c7 = c6 .before in
+    rw (← (c7 .mat-vec .ensures), ← (c6 .subtract .ensures), ← (c4 .all-finite .ensures), ← (c2 .all-finite2 .ensures), c1 .if1 .left) (c .not-allowed .ensures)))
