@@ -15,6 +15,7 @@ use Rattle.float.specs.Arith.{_⊕_, zero+, finite, plusZero}
 use Rattle.evaluation.specs.Evaluation.{allFinite}
 use Rattle.evaluation.specs.Sizes.{places, answerRoom}
 use Rattle.methods.specs.Sizes.{etd2Number}
+use Rattle.methods.specs.declared.Work.{Work}
 use Rattle.methods.specs.Step.{Progress, refused, asking, ended}
 use Rattle.methods.specs.Shape.{Whole}
 use Rattle.session.specs.declared.Session.{Session}
@@ -316,17 +317,17 @@ shown-good : (old s : Session) (o : List Float) (p : Progress) → Good s → nu
 unfolding shown
 shown-good old s o refused g e = not-refused 5 e
 shown-good old s o (asking x t) g e = g
-shown-good old s o (ended x d h) g e = g
+shown-good old s o (ended x d h w) g e = g
 
-settled-good : (s : Session) (f : List Float) (p : Progress) → Good s → ((x e g : List Float) → p ≡ ended x e g → Wholes (s .n) x e g)
+settled-good : (s : Session) (f : List Float) (p : Progress) → Good s → ((x e g : List Float) (w : Work) → p ≡ ended x e g w → Wholes (s .n) x e g)
     → fault (vectorTests (s .n) f true) ≡ 0 → number (settled s f p .answer) ≡ 0 → Good (settled s f p .session)
 unfolding settled arrived
 settled-good s f refused g w v e = not-refused 5 e
 settled-good s f (asking x t) g w v e = not-refused 5 e
-settled-good s f (ended x d h) g w v e = go (finite (s .time ⊕ s .step)) refl e
+settled-good s f (ended x d h work) g w v e = go (finite (s .time ⊕ s .step)) refl e
   where
     k : Wholes (s .n) x d h
-    k = w x d h refl
+    k = w x d h work refl
 
     go : (b : Bool) → finite (s .time ⊕ s .step) ≡ b → number (cond b (tell Resting (moved s (s .time ⊕ s .step) x f h)) (refuse s 6) .answer) ≡ 0
         → Good (cond b (tell Resting (moved s (s .time ⊕ s .step) x f h)) (refuse s 6) .session)

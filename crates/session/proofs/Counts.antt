@@ -1,6 +1,6 @@
 -- How many answers an attempt has where a call asks, and where it is ready. Assumes nothing.
 use Prim.Native.Nat.{ℕ, _+_, _-_, _*_, _≤_, _<_}
-use mathlib.Core.Path.{_≡_, refl, sym, ap, _∙_, subst}
+use mathlib.Core.Path.{_≡_, refl, subst}
 use mathlib.Core.Bool.{Bool, true, false, cond}
 use mathlib.Core.List.{List}
 use native.Mathlib.Omega.{arith}
@@ -10,13 +10,10 @@ use lib.ListN.{take}
 use borrow.Author.Tests.{ltb-true, ltb-false}
 use Rattle.loops.specs.Loop.{every, mat}
 use Rattle.evaluation.specs.Evaluation.{allFinite}
-use Rattle.methods.specs.Step.{questions, Progress, refused, asking, ended, performStep}
-use Rattle.methods.specs.Shape.{Asked, Ended}
+use Rattle.methods.specs.Step.{questions, Progress, refused, asking, ended}
 use Rattle.methods.proofs.Shape.{asks-early, ends-late}
 use Rattle.engine.specs.Engine.{perturbed, jacobianEntry, columnOk}
 use Rattle.session.specs.declared.Session.{Session}
-use Rattle.session.specs.declared.Told.{Told}
-use Rattle.session.specs.declared.Answer.{Answer}
 use Rattle.session.specs.declared.Attempt.{Attempt}
 use Rattle.session.specs.declared.Attempt.the-variants.{None, Supplied, Differenced}
 use Rattle.session.specs.declared.Phase.the-variants.{Rest, Asking, Waiting}
@@ -32,7 +29,7 @@ use Rattle.session.proofs.Laws.{fault-none, in-phase, begin-passes, sup
 CountedAt : Progress → ℕ → ℕ → Type 0
 CountedAt refused count most = Unit
 CountedAt (asking x t) count most = count < most
-CountedAt (ended x e g) count most = most ≤ count
+CountedAt (ended x e g w) count most = most ≤ count
 
 step-counted : (s : Session) (a : List Float) (j most : ℕ) → s .n ≤ 16 → j ≤ s .count → most ≡ j + questions (s .scheme) → CountedAt (stepped s a j) (s .count) most
 step-counted s a j most small h q = go (stepped s a j) refl
@@ -42,8 +39,8 @@ step-counted s a j most small h q = go (stepped s a j) refl
     go (asking x t) e =
         let k = asks-early (s .scheme) (pointOf s) a (s .count - j) j (s .answers) x t (unfold pointOf in small) e in
         unfold CountedAt in omega (arith, k .early)
-    go (ended x d g) e =
-        let k = ends-late (s .scheme) (pointOf s) a (s .count - j) j (s .answers) x d g (unfold pointOf in small) e in
+    go (ended x d g w) e =
+        let k = ends-late (s .scheme) (pointOf s) a (s .count - j) j (s .answers) x d g w (unfold pointOf in small) e in
         unfold CountedAt in omega (arith, k .late)
 
 or-refused : (b : Bool) (p : Progress) (count most : ℕ) → CountedAt p count most → CountedAt (cond b p refused) count most
@@ -83,7 +80,7 @@ shown-counted : (old s : Session) (o : List Float) (p : Progress) → s .count �
 unfolding Counted CountedBy CountedAt shown readyOf
 shown-counted old s o refused m h = tt
 shown-counted old s o (asking x t) m h = h
-shown-counted old s o (ended x e g) m h = omega arith
+shown-counted old s o (ended x e g w) m h = omega arith
 
 sound-counted : (old s : Session) (o : List Float) → Sound s → Counted (shown old s o (progress s) .told)
 sound-counted old s o r = shown-counted old s o (progress s) (r .enough) (progress-counted s (r .small))

@@ -1,16 +1,15 @@
 -- What drop brings back, and what becomes of the session of a refused open. Assumes nothing.
-use Prim.Native.Nat.{ℕ, zero, suc, _*_, _/_, _%_, _≤_, _<_}
+use Prim.Native.Nat.{ℕ, zero, suc, _/_, _≤_, _<_}
 use native.Mathlib.Omega.{arith}
-use mathlib.Core.Path.{_≡_, refl, sym, ap, _∙_, subst}
-use mathlib.Core.Logic.{_⊎_, inl, inr}
-use mathlib.Core.Bool.{Bool, true, false, cond, _&&_, _||_}
+use mathlib.Core.Path.{_≡_, refl, sym, ap, _∙_}
+use mathlib.Core.Bool.{Bool, true, false}
 use mathlib.Core.List.{List, [], _∷_, _++_}
 use lib.Dec.{ltb, leb·suc-zero}
 use lib.Ieee.{Float, le}
 use lib.ListN.{length, replicate}
 use borrow.Author.Tests.{leb-true}
 use Rattle.loops.proofs.Loops.{every-at}
-use Rattle.loops.specs.Loop.{every, _!_}
+use Rattle.loops.specs.Loop.{_!_}
 use Rattle.float.specs.Arith.{zero+, epsilon, plusZero}
 use Rattle.evaluation.specs.Sizes.{answerRoom}
 use Rattle.methods.specs.Step.{Progress, refused, asking, ended}
@@ -18,8 +17,7 @@ use Rattle.engine.specs.Claims.{Between}
 use Rattle.engine.proofs.FirstStep.{first-step-told}
 use Rattle.session.specs.declared.Session.{Session}
 use Rattle.session.specs.declared.Told.{Told}
-use Rattle.session.specs.declared.Answer.{Answer}
-use Rattle.session.specs.declared.Answer.the-variants.{Ask, Ready, Resting, FirstStep, Filled, Norm, Refused}
+use Rattle.session.specs.declared.Answer.the-variants.{Resting, FirstStep, Refused}
 use Rattle.session.specs.declared.Attempt.{Attempt}
 use Rattle.session.specs.declared.Attempt.the-variants.{None, Supplied, Differenced}
 use Rattle.session.specs.declared.Wish.{Wish}
@@ -27,13 +25,13 @@ use Rattle.session.specs.declared.Phase.the-variants.{Rest, Asking, Wait
 use Rattle.session.specs.declared.Wants.{Wants}
 use Rattle.session.specs.declared.Wants.the-variants.{Any, Only}
 use Rattle.session.specs.Tests.{Tests, fault, condition, numbered, unless}
-use Rattle.session.specs.Values.{number, valuesOf, figured}
-use Rattle.session.specs.Session.{jacobianRoom, Run, Trial, joined, runOf, trialOf, fresh, idle, clear, inAnswers, clearAnswers, usedJacobian, stepClear, wanted, wantedBy}
+use Rattle.session.specs.Values.{number, valuesOf}
+use Rattle.session.specs.Session.{jacobianRoom, Trial, joined, runOf, trialOf, fresh, idle, clear, clearAnswers, usedJacobian, stepClear, wanted, wantedBy}
 use Rattle.session.specs.Session.{phaseWith, phaseAt, phaseOf, phaseNumber, admits, sizeOk, good1, good7, sessionTests, progress}
-use Rattle.session.specs.Calls.{Outcome, outcome, tell, refuse, refuseLent, opened, nothing, begun, rested, answered, readyOf, shown, attemptOf}
+use Rattle.session.specs.Calls.{Outcome, tell, refuse, refuseLent, opened, nothing, begun, rested, answered, shown, attemptOf}
 use Rattle.session.specs.Calls.{beginTests, supplyTests, acceptTests, firstStepTests, largestTests, beginCall, supplyCall, acceptCall, dropCall, firstStepCall}
 use Rattle.session.specs.Runs.{Call, begin, supply, accept, drop, firstStep, perform, after}
-use Rattle.session.specs.Claims.{Doubles, Typed, TypedCall, TypedCalls, Closed, supplies, Drops, FirstSteps}
+use Rattle.session.specs.Claims.{Typed, TypedCall, TypedCalls, Closed, supplies, Drops, FirstSteps}
 use Rattle.session.proofs.Tests.{passes, fault-append, both-pass, unless-either}
 use Rattle.session.proofs.Laws.{in-phase, session-numbered}
 use Rattle.session.proofs.Clear.{plus-zero-is, nothing-in}
@@ -100,7 +98,7 @@ shown-run : (old s : Session) (o : List Float) (p : Progress) → runOf s ≡ ru
 unfolding shown
 shown-run old s o refused e = refl
 shown-run old s o (asking x t) e = e
-shown-run old s o (ended x d g) e = e
+shown-run old s o (ended x d g w) e = e
 
 supply-run : (s : Session) (x o : List Float) → runOf (supplyCall s x o .told .session) ≡ runOf s
 unfolding supplyCall

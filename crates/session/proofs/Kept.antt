@@ -10,7 +10,7 @@ use Rattle.session.specs.declared.Session.{Session}
 use Rattle.session.specs.declared.Told.{Told}
 use Rattle.session.specs.declared.Answer.the-variants.{Resting}
 use Rattle.session.specs.declared.Wish.{Wish}
-use Rattle.session.specs.Tests.{fault, unless}
+use Rattle.session.specs.Tests.{fault}
 use Rattle.session.specs.Values.{valuesOf, figured, isRefused}
 use Rattle.session.specs.Session.{progress}
 use Rattle.session.specs.Calls.{tell, refuse, refuseLent, shown, readyOf, settled, arrived, beginTests, supplyTests, acceptTests, attemptOf, rested}
@@ -35,13 +35,13 @@ module _ (s : Session) where
   unfolding settled
   settled-same d refused e = refl
   settled-same d (asking x t) e = refl
-  settled-same d (ended x f g) e = arrived-same x d g e
+  settled-same d (ended x f g w) e = arrived-same x d g e
 
   shown-same : (next : Session) (out : List Float) (p : Progress) → Same (shown s next out p .told)
   unfolding shown readyOf isRefused valuesOf figured
   shown-same next out refused e = refl
   shown-same next out (asking x t) e = absurd (false≢true e)
-  shown-same next out (ended x f g) e = absurd (false≢true e)
+  shown-same next out (ended x f g w) e = absurd (false≢true e)
 
   pub accept-same : (d : List Float) → Same (acceptCall s d)
   unfolding acceptCall

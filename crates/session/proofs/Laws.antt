@@ -1,6 +1,6 @@
 -- What follows from tests that passed, and what is told of an attempt. Assumes nothing.
 use Rattle.loops.proofs.Bools.{both-true}
-use Rattle.methods.specs.Step.{Progress, refused, progress as reached, progressKind}
+use Rattle.methods.specs.Step.{Progress, progress as reached, progressKind}
 use Rattle.session.specs.Tests.{Tests, fault, condition, numbered, unless}
 use Rattle.session.specs.Session.{schemes, largest, Run, joined, trialOf, fresh, wanted, wantedBy, phaseWith, phaseAt, phaseOf, phaseNumber, admits, sizeOk, runPlaces, attemptPlaces}
 use Rattle.float.specs.Arith.{finite}
@@ -9,13 +9,17 @@ use Rattle.session.specs.Session.{good1, historyOk, good2, good3, good7,
 use Rattle.methods.proofs.Shape.{questions-small}
 use Rattle.evaluation.specs.Sizes.{answersKept}
 use Rattle.methods.specs.Vectors.{Sized}
-use Rattle.session.specs.Bare.{exponentialTests, phiTests, normTests}
+use Rattle.matrix.specs.declared.Reach.{Reach}
+use Rattle.matrix.specs.Matrix.{admitted, exponential, reach}
+use Rattle.matrix.specs.Calls.{Filled as Raised}
+use Rattle.methods.proofs.Laws.{reach-ok}
+use Rattle.session.specs.Bare.{bare, refuseBare, exponentialTests, phiTests, normTests}
 use Rattle.session.specs.Calls.{outcome, tell, refuse, opened, nothing, openCall, begun, answered, attemptOf, vectorTests, attemptTests, beginTests, supplyTests}
 use Rattle.session.specs.Calls.{acceptTests, firstStepTests, shown, arrived, settled, answerOf}
 use Prim.Native.Nat.{ℕ, _+_, _*_, _≤_, _<_}
-use mathlib.Core.Path.{_≡_, refl}
-use mathlib.Core.Bool.{Bool, true, false, cond, not, _&&_, false≢true}
-use mathlib.Core.List.{List, [], _++_}
+use mathlib.Core.Path.{_≡_, refl, sym, _∙_}
+use mathlib.Core.Bool.{Bool, true, false, cond, _&&_, false≢true}
+use mathlib.Core.List.{List, _++_}
 use native.Mathlib.Omega.{arith}
 use lib.Dec.{leb, ltb, eqb}
 use lib.Ieee.{Float}
@@ -25,11 +29,12 @@ use Rattle.loops.specs.Loop.{tab, _!_}
 use native.Mathlib.Nat.{mul-le-mul}
 use Rattle.methods.specs.declared.Kind.{Kind}
 use Rattle.methods.specs.declared.StepResult.{StepResult}
+use Rattle.methods.specs.declared.Work.{Work}
 use Rattle.methods.specs.declared.Kind.the-variants.{Question, Done}
 use Rattle.session.specs.declared.Session.{Session}
 use Rattle.session.specs.declared.Told.{Told}
 use Rattle.session.specs.declared.Answer.{Answer}
-use Rattle.session.specs.declared.Answer.the-variants.{Resting}
+use Rattle.session.specs.declared.Answer.the-variants.{Resting, Filled, Refused}
 use Rattle.session.specs.declared.Attempt.{Attempt}
 use Rattle.session.specs.declared.Attempt.the-variants.{None, Supplied, Differenced}
 use Rattle.session.specs.declared.Phase.{Phase}
@@ -179,21 +184,21 @@ unfolding answered
 answered-sound s x r h = record { some = r .some; small = r .small; scheme = r .scheme; enough = omega arith; calm = r .calm }
 
 -- ---- what is shown of a pass, from what the code knows of it
-show-kind : (old s : Session) (o : List Float) (k : Kind) (x e g : List Float)
-    → outcome (tell (answerOf s k x e) s) (tab (s .n) (λ i. x ! i)) ≡ shown old s o (progressKind k x e g)
+show-kind : (old s : Session) (o : List Float) (k : Kind) (x e g : List Float) (w : Work)
+    → outcome (tell (answerOf s k x e w) s) (tab (s .n) (λ i. x ! i)) ≡ shown old s o (progressKind k x e g w)
 unfolding answerOf shown progressKind
-show-kind old s o (Question t) x e g = refl
-show-kind old s o Done x e g = refl
+show-kind old s o (Question t) x e g w = refl
+show-kind old s o Done x e g w = refl
 
 module _ (old s : Session) (o o' : List Float) (w : StepResult) (p : Progress) (v : reached w ≡ p) where
   pub show-bad : w .ok ≡ false → o' ≡ cond (w .ok) (tab (length o) (λ i. w .state ! i)) o → outcome (refuse old 6) o' ≡ shown old s o p
   unfolding shown reached
   show-bad e c = rw (← v, c, e)
 
-  pub show-ok : (a : Answer) → w .ok ≡ true → length o ≡ s .n → o' ≡ cond (w .ok) (tab (length o) (λ i. w .state ! i)) o → a ≡ answerOf s (w .kind) (w .state) (w .error)
+  pub show-ok : (a : Answer) → w .ok ≡ true → length o ≡ s .n → o' ≡ cond (w .ok) (tab (length o) (λ i. w .state ! i)) o → a ≡ answerOf s (w .kind) (w .state) (w .error) (w .work)
       → outcome (tell a s) o' ≡ shown old s o p
   unfolding reached
-  show-ok a e l c h = rw (← v, h, c, e, l) (show-kind old s o (w .kind) (w .state) (w .error) (w .nonlinear))
+  show-ok a e l c h = rw (← v, h, c, e, l) (show-kind old s o (w .kind) (w .state) (w .error) (w .nonlinear) (w .work))
 
 module _ (s : Session) (f : List Float) (w : StepResult) (p : Progress) (v : reached w ≡ p) where
   pub settle-bad : (r : Told) → r ≡ refuse s 6 → w .ok ≡ false → r ≡ settled s f p
@@ -235,6 +240,20 @@ exponential-sized size m lent e =
     (unfold condition exponentialTests in passes (exponentialTests size m lent) (unfold numbered exponentialTests in refl) e 1) in
     let q = both-true (eqb (length m) (size * size)) (eqb lent (size * size)) (p .1) in
     (size20 size (p .0), (eqb-true (length m) (size * size) (q .0), eqb-true lent (size * size) (q .1)))
+
+-- what is told of an exponential, from what matrix_exp leaves
+module _ (m m' o out : List Float) (n : ℕ) (r : Reach) (f : Raised m n m' o out r) where
+  is-admitted : (b : Bool) → r .ok ≡ b → admitted m n ≡ b
+  is-admitted b e = sym (reach-ok m n) ∙ (rw (f .told) at e)
+
+  pub filled-is : r .ok ≡ true
+      → bare (Filled (r .terms) (r .squarings)) out ≡ cond (admitted m n) (bare (Filled (exponential m n .terms) (exponential m n .squarings)) (exponential m n .entries)) (refuseBare o 6)
+  unfolding reach
+  filled-is e = rw (f .told, f .output, is-admitted true e)
+
+  pub unfilled-is : r .ok ≡ false
+      → bare (Refused 6) out ≡ cond (admitted m n) (bare (Filled (exponential m n .terms) (exponential m n .squarings)) (exponential m n .entries)) (refuseBare o 6)
+  unfilled-is e = rw (f .output, is-admitted false e)
 
 -- what a phi action that is not refused has
 pub record Acted (n order : ℕ) (a input : List Float) (lent : ℕ) : Type 0 where

@@ -14,6 +14,7 @@ use Rattle.loops.specs.Loop.{every, _!_}
 use Rattle.float.specs.Arith.{zero+, finite}
 use Rattle.float.proofs.Order.{zero-number}
 use Rattle.evaluation.specs.Evaluation.{allFinite}
+use Rattle.methods.specs.declared.Work.{Work}
 use Rattle.methods.specs.Step.{Progress, refused, asking, ended}
 use Rattle.engine.specs.Engine.{errorNorm}
 use Rattle.engine.proofs.Norm.{norm-number}
@@ -93,22 +94,22 @@ norm-of s m x e g w =
 -- ---- answers whose norm is no NaN
 Number : Answer → Type 0
 Number (Ask time) = Unit
-Number (Ready norm rhs jacobians) = isNan norm ≡ false
+Number (Ready norm rhs jacobians products) = isNan norm ≡ false
 Number Resting = Unit
 Number (FirstStep step) = Unit
-Number Filled = Unit
+Number (Filled terms squarings) = Unit
 Number (Norm norm) = isNan norm ≡ false
 Number (Refused k) = Unit
 
-shown-number : (old s : Session) (o : List Float) (p : Progress) → Measured s → ((x e g : List Float) → p ≡ ended x e g → Wholes (s .n) x e g)
+shown-number : (old s : Session) (o : List Float) (p : Progress) → Measured s → ((x e g : List Float) (w : Work) → p ≡ ended x e g w → Wholes (s .n) x e g)
     → Number (shown old s o p .told .answer)
 unfolding shown readyOf Number
 shown-number old s o refused m f = tt
 shown-number old s o (asking x t) m f = tt
-shown-number old s o (ended x e g) m f = go (hasError (s .scheme))
+shown-number old s o (ended x e g w) m f = go (hasError (s .scheme))
   where
     go : (b : Bool) → isNan (cond b (errorNorm (s .n) (s .relative) (s .absolute) (s .state) x e) zero+) ≡ false
-    go true = norm-of s m x e g (f x e g refl)
+    go true = norm-of s m x e g (f x e g w refl)
     go false = zero-number
 
 -- of a session whose attempt is shown
@@ -118,8 +119,8 @@ attempt-number old s o m = shown-number old s o (progress s) m (ended-whole s (m
 call-number : (k : ℕ) (s : Session) (o : List Float) (r : Outcome) → (k ≡ 0 → Number (r .told .answer)) → Number (unless k (refuseLent s o) r .told .answer)
 call-number k s o r h = unless-either k (refuseLent s o) r (λ r. Number (r .told .answer)) (λ j. unfold Number in tt) h
 
-ready-number : (a : Answer) → Number a → (norm : Float) (rhs jacobians : ℕ) → a ≡ Ready norm rhs jacobians → isNan norm ≡ false
-ready-number a h norm rhs jacobians e = unfold Number in subst Number e h
+ready-number : (a : Answer) → Number a → (norm : Float) (rhs jacobians products : ℕ) → a ≡ Ready norm rhs jacobians products → isNan norm ≡ false
+ready-number a h norm rhs jacobians products e = unfold Number in subst Number e h
 
 told-number : (a : Answer) → Number a → (norm : Float) → a ≡ Norm norm → isNan norm ≡ false
 told-number a h norm e = unfold Number in subst Number e h

@@ -156,7 +156,7 @@ as-before = record {
       refused-call c (broughtOver o) (λ z. h (sym e ∙ z)) ∙ e;
   own = λ o i h l. unfold broughtOver in own-at (o .n) (o .absolute) i h l;
   others = λ o i h l. unfold broughtOver in other-at (o .n) (o .absolute) i h l;
-  ready = λ s one equal candidate error. unfold readyOf in rw (equal-tolerances .norm (s .n) (s .relative) one (s .absolute) equal (s .state) candidate error);
+  ready = λ s one equal candidate error work. unfold readyOf in rw (equal-tolerances .norm (s .n) (s .relative) one (s .absolute) equal (s .state) candidate error);
   first = λ s one equal largest. unfold firstStepCall in rw (equal-tolerances .first (s .n) (s .relative) one (s .absolute) equal (s .state) (s .derivative) largest);
   norm = λ n relative one error state candidate. same-norm n relative one error state candidate (sizeOk n) refl;
 }

@@ -77,7 +77,7 @@ shown-first : (old s : Session) (o : List Float) (p : Progress) → First ((work
 unfolding First works shown outcome-number number valuesOf figured readyOf
 shown-first old s o refused = inl (refl, refl)
 shown-first old s o (asking x t) = inr (refl, refl)
-shown-first old s o (ended x e g) = inr (refl, refl)
+shown-first old s o (ended x e g w) = inr (refl, refl)
 
 -- a test by 6 that is made by a condition
 either-first : {A : Type 0} (of : A → ℕ) (b : Bool) (x z : A) → of x ≡ 0 → of z ≡ 6 → First ((b, 6) ∷ []) (of (cond b x z))
@@ -94,12 +94,12 @@ settled-first : (s : Session) (f : List Float) (p : Progress) → ((x : List Flo
 unfolding First works settled
 settled-first s f refused never = inl (refl, unfold told-number in refused-number 6)
 settled-first s f (asking x t) never = absurd (never x t refl)
-settled-first s f (ended x e g) never =
+settled-first s f (ended x e g w) never =
     inr (refl, unfold arrived in either-first told-number (finite (s .time ⊕ s .step)) _ (refuse s 6) (resting-number _) (unfold told-number in refused-number 6))
 
-filled-number : (out : List Float) → bare-number (bare Filled out) ≡ 0
+filled-number : (terms squarings : ℕ) (out : List Float) → bare-number (bare (Filled terms squarings) out) ≡ 0
 unfolding bare-number number valuesOf figured
-filled-number out = refl
+filled-number terms squarings out = refl
 
 -- no test after these
 none-after : (tests : Tests) (k : ℕ) → First (tests ++ []) k → First tests k
@@ -135,11 +135,12 @@ numbers = record {
       only-tests told-number (firstStepTests s largest) (refuse s) _ (first-step-numbered s largest) refused-number (unfold number valuesOf figured in refl);
   exponential = λ size m out.
       call-first bare-number (exponentialTests size m (length out)) _ (refuseBare out) _ (exponential-numbered size m (length out)) refused-number
-      (λ _. either-first bare-number (admitted m size) (bare Filled (exponential m size .entries)) (refuseBare out 6) (filled-number (exponential m size .entries)) (refused-number 6));
+      (λ _. either-first bare-number (admitted m size) _ (refuseBare out 6)
+      (filled-number (exponential m size .terms) (exponential m size .squarings) (exponential m size .entries)) (refused-number 6));
   phiAction = λ n order scaleA a input out.
       let action = phiAction n a scaleA order (vec n (λ i. input ! i)) in
       call-first bare-number (phiTests n order scaleA a input (length out)) _ (refuseBare out) _ (phi-numbered n order scaleA a input (length out)) refused-number
-      (λ _. either-first bare-number (action .tally .ok) _ (refuseBare out 6) (filled-number (tab n (λ i. action .v ! i))) (refused-number 6));
+      (λ _. either-first bare-number (action .tally .ok) _ (refuseBare out 6) (filled-number (action .tally .terms) (action .tally .squarings) (tab n (λ i. action .v ! i))) (refused-number 6));
   errorNorm = λ n relative absolute error state candidate.
       only-tests number (normTests n relative absolute error state candidate) Refused _ (norm-numbered n relative absolute error state candidate) refused-number
       (unfold number valuesOf figured in refl);
@@ -150,7 +151,7 @@ shown-unchanged : (old s : Session) (o : List Float) (p : Progress) → Unchange
 unfolding Unchanged shown number valuesOf figured readyOf
 shown-unchanged old s o refused = λ _. (refl, refl)
 shown-unchanged old s o (asking x t) = λ h. absurd (h refl)
-shown-unchanged old s o (ended x e g) = λ h. absurd (h refl)
+shown-unchanged old s o (ended x e g w) = λ h. absurd (h refl)
 
 resting-kept : (s t : Session) → Kept s (tell Resting t)
 unfolding Kept number valuesOf figured
@@ -160,17 +161,17 @@ settled-kept : (s : Session) (f : List Float) (p : Progress) → Kept s (settled
 unfolding settled arrived
 settled-kept s f refused = unfold Kept in λ _. refl
 settled-kept s f (asking x t) = unfold Kept in λ _. refl
-settled-kept s f (ended x e g) = go (finite (s .time ⊕ s .step))
+settled-kept s f (ended x e g w) = go (finite (s .time ⊕ s .step))
   where
     go : (b : Bool) → Kept s (cond b (tell Resting (moved s (s .time ⊕ s .step) x f g)) (refuse s 6))
     go true = resting-kept s _
     go false = unfold Kept in λ _. refl
 
 -- a bare call: filled, or refused by 6
-filled-unwritten : (out made : List Float) (b : Bool) → Unwritten out (cond b (bare Filled made) (refuseBare out 6))
+filled-unwritten : (out made : List Float) (terms squarings : ℕ) (b : Bool) → Unwritten out (cond b (bare (Filled terms squarings) made) (refuseBare out 6))
 unfolding Unwritten number valuesOf figured
-filled-unwritten out made true = λ h. absurd (h refl)
-filled-unwritten out made false = λ _. refl
+filled-unwritten out made terms squarings true = λ h. absurd (h refl)
+filled-unwritten out made terms squarings false = λ _. refl
 
 kept : (k : ℕ) (s : Session) (r : Told) → Kept s r → Kept s (unless k (refuse s) r)
 kept k s r h = unless-either k (refuse s) r (Kept s) (λ j. unfold Kept in λ _. refl) (λ _. h)
@@ -190,8 +191,8 @@ refusals = record {
   accept = λ s derivative. kept _ s _ (settled-kept s derivative _);
   drop = λ s. kept _ s _ (resting-kept s _);
   firstStep = λ s largest. kept _ s _ (unfold Kept in λ _. refl);
-  exponential = λ size m out. unwritten _ out _ (filled-unwritten out (exponential m size .entries) (admitted m size));
+  exponential = λ size m out. unwritten _ out _ (filled-unwritten out (exponential m size .entries) (exponential m size .terms) (exponential m size .squarings) (admitted m size));
   phiAction = λ n order scaleA a input out.
       let action = phiAction n a scaleA order (vec n (λ i. input ! i)) in
-      unwritten _ out _ (filled-unwritten out (tab n (λ i. action .v ! i)) (action .tally .ok));
+      unwritten _ out _ (filled-unwritten out (tab n (λ i. action .v ! i)) (action .tally .terms) (action .tally .squarings) (action .tally .ok));
 }

@@ -34,10 +34,11 @@ unfoldable pub exponentialTests : ℕ → List Float → ℕ → Tests
 exponentialTests size m lent =
     ((leb 1 size && leb size largest) && (eqb (length m) (size * size) && eqb lent (size * size)), 1) ∷ (allFinite m, 3) ∷ []
 
+-- the exponential, its terms and its squarings
 unfoldable pub exponentialCall : ℕ → List Float → List Float → Bare
 exponentialCall size m out =
     unless (fault (exponentialTests size m (length out))) (refuseBare out)
-    (cond (admitted m size) (bare Filled (exponential m size .entries)) (refuseBare out 6))
+    (cond (admitted m size) (bare (Filled (exponential m size .terms) (exponential m size .squarings)) (exponential m size .entries)) (refuseBare out 6))
 
 -- a dimension, an order, a factor, a matrix, an input and an output
 unfoldable pub phiTests : ℕ → ℕ → Float → List Float → List Float → ℕ → Tests
@@ -46,11 +47,12 @@ phiTests n order scaleA a input lent =
     ∷ (finite scaleA && allFinite a && allFinite input, 3)
     ∷ []
 
+-- the phi action, with the terms and squarings of its exponential
 unfoldable pub phiCall : ℕ → ℕ → Float → List Float → List Float → List Float → Bare
 phiCall n order scaleA a input out =
     let action = phiAction n a scaleA order (vec n (λ i. input ! i)) in
     unless (fault (phiTests n order scaleA a input (length out))) (refuseBare out)
-    (cond (action .tally .ok) (bare Filled (tab n (λ i. action .v ! i))) (refuseBare out 6))
+    (cond (action .tally .ok) (bare (Filled (action .tally .terms) (action .tally .squarings)) (tab n (λ i. action .v ! i))) (refuseBare out 6))
 
 -- a dimension, the tolerances, and three vectors
 unfoldable pub normTests : ℕ → Float → List Float → List Float → List Float → List Float → Tests

@@ -12,6 +12,7 @@ use Rattle.evaluation.specs.Sizes.{places}
 use Rattle.methods.specs.Sizes.{etd2Number, exprb32Number, exprb43Number}
 use Rattle.methods.specs.declared.Kind.{Kind}
 use Rattle.methods.specs.declared.Kind.the-variants.{Question, Done}
+use Rattle.methods.specs.declared.Work.{Work}
 use Rattle.methods.specs.Step.{Progress, refused, asking, ended}
 use Rattle.engine.specs.Engine.{errorNorm, firstStep}
 use Rattle.session.specs.declared.Session.{Session}
@@ -110,21 +111,22 @@ moved s time state derivative nonlinear =
 unfoldable pub hasError : ℕ → Bool
 hasError scheme = eqb scheme exprb32Number || eqb scheme exprb43Number
 
--- Ready with the error norm and the counts: right-hand sides, and one Jacobian
-unfoldable pub readyOf : Session → List Float → List Float → Answer
-readyOf s candidate error =
-    Ready (cond (hasError (s .scheme)) (errorNorm (s .n) (s .relative) (s .absolute) (s .state) candidate error) zero+) (wantedBy s) 1
+-- Ready with the error norm and the counts: right-hand sides, one Jacobian, and the matrix products of the pass
+unfoldable pub readyOf : Session → List Float → List Float → Work → Answer
+readyOf s candidate error work =
+    let norm = cond (hasError (s .scheme)) (errorNorm (s .n) (s .relative) (s .absolute) (s .state) candidate error) zero+ in
+    Ready norm (wantedBy s) 1 (work .products)
 
 -- the answer of an attempt that asks, or has ended
-unfoldable pub answerOf : Session → Kind → List Float → List Float → Answer
-answerOf s (Question time) x e = Ask time
-answerOf s Done x e = readyOf s x e
+unfoldable pub answerOf : Session → Kind → List Float → List Float → Work → Answer
+answerOf s (Question time) x e work = Ask time
+answerOf s Done x e work = readyOf s x e work
 
 -- what is told of a session with an attempt: the question or the candidate fills the output; where 6 is given, `old` goes back
 unfoldable pub shown : Session → Session → List Float → Progress → Outcome
 shown old s out refused = refuseLent old out 6
 shown old s out (asking x time) = outcome (tell (Ask time) s) (tab (s .n) (λ i. x ! i))
-shown old s out (ended x e g) = outcome (tell (readyOf s x e) s) (tab (s .n) (λ i. x ! i))
+shown old s out (ended x e g work) = outcome (tell (readyOf s x e work) s) (tab (s .n) (λ i. x ! i))
 
 -- the candidate becomes the state, if the time then is finite
 unfoldable pub arrived : Session → List Float → List Float → List Float → Told
@@ -136,7 +138,7 @@ arrived s candidate derivative nonlinear =
 unfoldable pub settled : Session → List Float → Progress → Told
 settled s derivative refused = refuse s 6
 settled s derivative (asking x time) = refuse s 6
-settled s derivative (ended x e g) = arrived s x derivative g
+settled s derivative (ended x e g work) = arrived s x derivative g
 
 -- ---- the tests of a call: those of the session, then those of what is handed in, in the order 1, 4, 5, 3
 

@@ -1,5 +1,5 @@
--- What follows from the definitions of the calls: counts, closed sessions, tolerances, drops, the first step and the error norms. Definitions only.
-use Prim.Native.Nat.{ℕ, _≤_, _<_}
+-- What follows from the definitions of the calls: counts, closed sessions, tolerances, products, drops, the first step and the error norms. Definitions only.
+use Prim.Native.Nat.{ℕ, _*_, _≤_, _<_}
 use mathlib.Core.Path.{_≡_}
 use mathlib.Core.Bool.{true, false, cond}
 use mathlib.Core.List.{List, [], _∷_}
@@ -9,7 +9,8 @@ use lib.ListN.{length}
 use Rattle.loops.specs.Loop.{_!_}
 use Rattle.float.specs.Arith.{plusZero}
 use Rattle.evaluation.specs.Sizes.{places, answerRoom}
-use Rattle.methods.specs.Step.{asking}
+use Rattle.matrix.specs.Matrix.{Few}
+use Rattle.methods.specs.Step.{exponentials, asking}
 use Rattle.engine.specs.Claims.{Between}
 use Rattle.session.specs.declared.Session.{Session}
 use Rattle.session.specs.declared.Told.{Told}
@@ -20,10 +21,10 @@ use Rattle.session.specs.declared.Phase.the-variants.{Rest, Waiting}
 use Rattle.session.specs.declared.Wants.{Wants}
 use Rattle.session.specs.declared.Wants.the-variants.{Only}
 use Rattle.session.specs.Tests.{fault}
-use Rattle.session.specs.Values.{number}
-use Rattle.session.specs.Session.{Run, jacobianRoom, wantedBy, good1, good7, positive, good4, sessionTests, progress}
+use Rattle.session.specs.Values.{valuesOf, number}
+use Rattle.session.specs.Session.{Run, jacobianRoom, wantedBy, good1, good7, positive, good4, sessionTests, isHeld, progress}
 use Rattle.session.specs.Calls.{tell, nothing, openCall, beginCall, supplyCall, dropCall, firstStepCall}
-use Rattle.session.specs.Bare.{normCall}
+use Rattle.session.specs.Bare.{exponentialCall, phiCall, normCall}
 use Rattle.session.specs.Runs.{Call, begin, supply, accept, drop, firstStep, perform, after}
 
 -- ---- what the code's types give
@@ -62,10 +63,10 @@ TypedCalls (c ∷ cs) = TypedCall c × TypedCalls cs
 
 unfoldable pub CountedBy : Answer → ℕ → ℕ → Type 0
 CountedBy (Ask time) count most = count < most
-CountedBy (Ready norm rhs jacobians) count most = count ≡ most
+CountedBy (Ready norm rhs jacobians products) count most = count ≡ most
 CountedBy Resting count most = Unit
 CountedBy (FirstStep step) count most = Unit
-CountedBy Filled count most = Unit
+CountedBy (Filled terms squarings) count most = Unit
 CountedBy (Norm norm) count most = Unit
 CountedBy (Refused k) count most = Unit
 
@@ -99,6 +100,28 @@ pub record Tolerances : Type 0 where
   -- one past n that is not +0.0 fails the test of 1
   pub past : (s : Session) → length (s .absolute) ≡ places → (i : ℕ) → s .n ≤ i → i < places → plusZero (s .absolute ! i) ≡ false → good1 s ≡ false
 
+-- ---- request 2: how far the exponentials went
+
+-- the exponentials of a session's pass
+abbrev pub exponentialsOf : Session → ℕ
+exponentialsOf s = exponentials (s .scheme) (isHeld (s .history))
+
+pub record Products : Type 0 where
+  -- of every session of the code's types, forged or not, and whatever is handed in, Ready's products are at most 47 for each exponential of its scheme's pass
+  pub begin : (s : Session) (step : Float) (wish : Wish) (jacobian out : List Float) → Typed s
+      → (norm : Float) (rhs jacobians products : ℕ) → beginCall s step wish jacobian out .told .answer ≡ Ready norm rhs jacobians products → products ≤ 47 * exponentialsOf s
+  pub supply : (s : Session) (answer out : List Float) → Typed s
+      → (norm : Float) (rhs jacobians products : ℕ) → supplyCall s answer out .told .answer ≡ Ready norm rhs jacobians products → products ≤ 47 * exponentialsOf s
+  -- so at most 1,598
+  pub most : (s : Session) → 47 * exponentialsOf s ≤ 1598
+  -- a pass that asks carries no sum
+  pub asking : (time : Float) → valuesOf (Ask time) .counts ≡ 0 ∷ 0 ∷ 0 ∷ []
+  -- Filled's terms and squarings are no more than an exponential may take, of every matrix and every input of doubles
+  pub exponential : (size : ℕ) (m out : List Float) → ((i : ℕ) → T (fits binary64 (m ! i)))
+      → (terms squarings : ℕ) → exponentialCall size m out .answer ≡ Filled terms squarings → Few terms squarings
+  pub phiAction : (n order : ℕ) (scaleA : Float) (a input out : List Float) → ((i : ℕ) → T (fits binary64 (input ! i)))
+      → (terms squarings : ℕ) → phiCall n order scaleA a input out .answer ≡ Filled terms squarings → Few terms squarings
+
 -- ---- drops, and the session of a refused open
 
 -- one supply for each answer and lent output
@@ -127,9 +150,9 @@ FirstSteps =
 -- for every session of the code's types, and whatever is handed in
 pub record Norms : Type 0 where
   pub begin : (s : Session) (step : Float) (wish : Wish) (jacobian out : List Float) → Typed s
-      → (norm : Float) (rhs jacobians : ℕ) → beginCall s step wish jacobian out .told .answer ≡ Ready norm rhs jacobians → isNan norm ≡ false
+      → (norm : Float) (rhs jacobians products : ℕ) → beginCall s step wish jacobian out .told .answer ≡ Ready norm rhs jacobians products → isNan norm ≡ false
   pub supply : (s : Session) (answer out : List Float) → Typed s
-      → (norm : Float) (rhs jacobians : ℕ) → supplyCall s answer out .told .answer ≡ Ready norm rhs jacobians → isNan norm ≡ false
+      → (norm : Float) (rhs jacobians products : ℕ) → supplyCall s answer out .told .answer ≡ Ready norm rhs jacobians products → isNan norm ≡ false
   pub bare : (n : ℕ) (relative : Float) (absolute error state candidate : List Float)
       → ((i : ℕ) → T (fits binary64 (absolute ! i))) → length error ≡ places → length state ≡ places → length candidate ≡ places
       → (norm : Float) → normCall n relative absolute error state candidate ≡ Norm norm → isNan norm ≡ false

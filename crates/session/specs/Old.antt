@@ -15,6 +15,7 @@ use Rattle.session.specs.declared.Session.{Session}
 use Rattle.session.specs.declared.OldSession.{OldSession}
 use Rattle.session.specs.declared.Head.{Head}
 use Rattle.session.specs.declared.Answer.{Answer}
+use Rattle.methods.specs.declared.Work.{Work}
 use Rattle.session.specs.declared.Answer.the-variants.{Ready, FirstStep, Norm, Refused}
 use Rattle.session.specs.declared.Wants.{Wants}
 use Rattle.session.specs.Tests.{Tests, fault, unless}
@@ -144,8 +145,8 @@ pub record AsBefore : Type 0 where
   pub own : (o : OldSession) (i : ℕ) → i < o .n → i < places → broughtOver o .absolute ! i ≡ o .absolute
   pub others : (o : OldSession) (i : ℕ) → o .n ≤ i → i < places → broughtOver o .absolute ! i ≡ zero+
   -- a session with n equal tolerances is told the Rust's figures
-  pub ready : (s : Session) (one : Float) → Equal (s .n) one (s .absolute) → (candidate error : List Float)
-      → readyOf s candidate error ≡ Ready (cond (hasError (s .scheme)) (scaledErrorNorm (s .n) (s .relative) one (s .state) candidate error) zero+) (wantedBy s) 1
+  pub ready : (s : Session) (one : Float) → Equal (s .n) one (s .absolute) → (candidate error : List Float) (work : Work)
+      → readyOf s candidate error work ≡ Ready (cond (hasError (s .scheme)) (scaledErrorNorm (s .n) (s .relative) one (s .state) candidate error) zero+) (wantedBy s) 1 (work .products)
   pub first : (s : Session) (one : Float) → Equal (s .n) one (s .absolute) → (largest : Float)
       → firstStepCall s largest
       ≡ unless (fault (firstStepTests s largest)) (refuse s) (tell (FirstStep (estimateInitialStep (s .n) (s .relative) one (s .state) (s .derivative) largest)) s)

@@ -34,7 +34,7 @@ First ((holds, number) ∷ tests) k = ((holds ≡ false) × (k ≡ number)) ⊎ 
 unfoldable pub works : Progress → Bool
 works refused = false
 works (asking x time) = true
-works (ended x e g) = true
+works (ended x e g work) = true
 
 -- the number that each call gives, for every session and whatever is handed in
 pub record Numbers : Type 0 where

@@ -10,14 +10,13 @@ ghost use lib.ListN.{length};
 ghost use Rattle.loops.specs.Loop.{every, stores, _!_};
 ghost use Rattle.evaluation.specs.Evaluation.{allFinite};
 ghost use Rattle.evaluation.specs.Sizes.{places, answersKept};
-ghost use Rattle.methods.specs.Step.{refused};
 ghost use Rattle.methods.specs.Step.{progress as reached};
 ghost use Rattle.float.specs.Arith.{zero+};
 ghost use Rattle.session.specs.Tests.{fault};
 ghost use Rattle.session.specs.Session.{jacobianRoom, clear, usedHistory, usedJacobian, stepClear, wanted, phaseWith, phaseOf, phaseNumber, admits};
 ghost use Rattle.session.specs.Session.{good1, historyOk, good2, good7, positive, tolerancesOk, stepOk, good5, sessionTests, Sound, attemptPlaces};
 ghost use Rattle.session.specs.Session.{isHeld, pointOf, question, differencing, progress};
-ghost use Rattle.session.specs.Figures.{FIGURES, answersAt, part, sessionOf, headOf, figuresOf};
+ghost use Rattle.session.specs.Figures.{FIGURES, answersAt, sessionOf, headOf, figuresOf};
 ghost use Rattle.session.specs.Calls.{outcome, tell, refuse, opened, nothing, begun, rested, answered, moved, readyOf, answerOf, shown, arrived, settled};
 ghost use Rattle.session.specs.Calls.{vectorTests, attemptOf, attemptTests, largestTests, beginTests, supplyTests, acceptTests, firstStepTests};
 ghost use Rattle.session.specs.Calls.{openCall, beginCall, supplyCall, acceptCall, dropCall, firstStepCall};
@@ -72,13 +71,14 @@ pub enum Wish {
     Difference,
 }
 
-// What a call tells the host. Ask: the time of the question. Ready: the error norm, right-hand sides and Jacobians.
+// What a call tells the host. Ask: the time of the question. Ready: the error norm, right-hand sides, Jacobians and matrix products. Filled:
+// the terms and squarings of the exponential.
 pub enum Answer {
     Ask(f64),
-    Ready(f64, u32, u32),
+    Ready(f64, u32, u32, u32),
     Resting,
     FirstStep(f64),
-    Filled,
+    Filled(u32, u32),
     Norm(f64),
     Refused(u8),
 }
@@ -576,20 +576,7 @@ fn point_of(k: Head, figures: &[f64]) -> methods::Point
     }
 }
 
-// An attempt that is refused by 6.
-fn not_allowed() -> methods::StepResult
-    ensures { λ r. ⌜ reached r ≡ refused ⌝ }
-{
-    methods::StepResult {
-        ok: false,
-        kind: methods::Kind::Done,
-        state: [0.0; PLACES],
-        error: [0.0; PLACES],
-        nonlinear: [0.0; PLACES],
-    }
-}
-
-// A column's question.
+// A column's question; it carries nothing else.
 fn asked(x: [f64; PLACES], time: f64) -> methods::StepResult
     ensures { λ r. ⌜ reached r ≡ question x time ⌝ }
 {
@@ -597,8 +584,7 @@ fn asked(x: [f64; PLACES], time: f64) -> methods::StepResult
         ok: evaluation::all_finite(&x),
         kind: methods::Kind::Question(time),
         state: x,
-        error: [0.0; PLACES],
-        nonlinear: [0.0; PLACES],
+        ..methods::not_allowed()
     }
 }
 
@@ -656,14 +642,14 @@ fn differencing(k: Head, figures: &[f64]) -> methods::StepResult
         if columns_ok(k, figures, count) {
             return column(k, figures);
         }
-        return not_allowed();
+        return methods::not_allowed();
     }
     if columns_ok(k, figures, n) {
         let size = n * n;
         let mut a = [0.0; JACOBIAN];
         return stepped_from(k, figures, &mut a[..size]);
     }
-    not_allowed()
+    methods::not_allowed()
 }
 
 fn supplied(k: Head, figures: &[f64]) -> methods::StepResult
@@ -689,7 +675,7 @@ fn run_pass(k: Head, figures: &[f64]) -> methods::StepResult
 {
     let attempt = k.attempt;
     match attempt {
-        Attempt::None => not_allowed(),
+        Attempt::None => methods::not_allowed(),
         Attempt::Supplied => supplied(k, figures),
         Attempt::Differenced => differencing(k, figures),
     }
@@ -697,10 +683,16 @@ fn run_pass(k: Head, figures: &[f64]) -> methods::StepResult
 
 // ---- what is told
 
-fn ready_of(k: Head, figures: &[f64], candidate: &[f64], error: &[f64]) -> Answer
+fn ready_of(
+    k: Head,
+    figures: &[f64],
+    candidate: &[f64],
+    error: &[f64],
+    work: methods::Work,
+) -> Answer
     requires { ⌜ (length (now figures) ≡ FIGURES) × Sound (sessionOf k (now figures)) ⌝ }
     requires { ⌜ (length (now candidate) ≡ places) × (length (now error) ≡ places) ⌝ }
-    ensures { λ r. ⌜ r ≡ readyOf (sessionOf k (now (figures .entry))) (now (candidate .entry)) (now (error .entry)) ⌝ }
+    ensures { λ r. ⌜ r ≡ readyOf (sessionOf k (now (figures .entry))) (now (candidate .entry)) (now (error .entry)) work ⌝ }
 {
     let n = k.n;
     let attempt = k.attempt;
@@ -714,9 +706,9 @@ fn ready_of(k: Head, figures: &[f64], candidate: &[f64], error: &[f64]) -> Answe
             candidate,
             error,
         );
-        return Answer::Ready(norm, rhs as u32, 1);
+        return Answer::Ready(norm, rhs as u32, 1, work.products);
     }
-    Answer::Ready(0.0, rhs as u32, 1)
+    Answer::Ready(0.0, rhs as u32, 1, work.products)
 }
 
 fn answer_of(
@@ -725,13 +717,14 @@ fn answer_of(
     kind: methods::Kind,
     x: [f64; PLACES],
     e: [f64; PLACES],
+    work: methods::Work,
 ) -> Answer
     requires { ⌜ (length (now figures) ≡ FIGURES) × Sound (sessionOf k (now figures)) ⌝ }
-    ensures { λ r. ⌜ r ≡ answerOf (sessionOf k (now (figures .entry))) kind x e ⌝ }
+    ensures { λ r. ⌜ r ≡ answerOf (sessionOf k (now (figures .entry))) kind x e work ⌝ }
 {
     match kind {
         methods::Kind::Question(t) => Answer::Ask(t),
-        methods::Kind::Done => ready_of(k, figures, &x, &e),
+        methods::Kind::Done => ready_of(k, figures, &x, &e, work),
     }
 }
 
@@ -754,7 +747,8 @@ fn show(k: Head, figures: &[f64], out: &mut [f64]) -> Shown
     if w.ok {
         let kind = w.kind;
         let e = w.error;
-        let answer = answer_of(k, figures, kind, x, e);
+        let work = w.work;
+        let answer = answer_of(k, figures, kind, x, e, work);
         return Shown { ok: true, answer };
     }
     Shown {
@@ -1470,7 +1464,7 @@ fn exponential_fault(size: usize, m: &[f64], lent: usize) -> u8
     1
 }
 
-// The exponential of a matrix of size 1 to 20, into `out`.
+// The exponential of a matrix of size 1 to 20, into `out`, and how far it went.
 pub fn exponential(size: usize, m: &[f64], out: &mut [f64]) -> Answer
     ensures { λ r. ⌜ bare r (now (out .exit)) ≡ exponentialCall size (now (m .entry)) (now (out .entry)) ⌝ }
 {
@@ -1479,8 +1473,9 @@ pub fn exponential(size: usize, m: &[f64], out: &mut [f64]) -> Answer
         let mut a = [0.0; LARGEST * LARGEST];
         let end = size * size;
         figures::put(m, &mut a, 0);
-        if matrix::matrix_exp(&mut a[..end], &mut *out, size) {
-            return Answer::Filled;
+        let reach = matrix::matrix_exp(&mut a[..end], &mut *out, size);
+        if reach.ok {
+            return Answer::Filled(reach.terms, reach.squarings);
         }
         return Answer::Refused(6);
     }
@@ -1501,7 +1496,7 @@ fn phi_fault(n: usize, order: usize, scale_a: f64, a: &[f64], input: &[f64], len
     1
 }
 
-// The phi action of order 1 to 4 on n numbers, into `out`.
+// The phi action of order 1 to 4 on n numbers, into `out`, and how far its exponential went.
 pub fn phi_action(
     n: usize,
     order: usize,
@@ -1519,7 +1514,7 @@ pub fn phi_action(
         if tally.ok {
             let v = action.v;
             places::copy_out(v, &mut *out);
-            return Answer::Filled;
+            return Answer::Filled(tally.terms, tally.squarings);
         }
         return Answer::Refused(6);
     }

@@ -12,4 +12,7 @@ asked-spec =
     (tie.spec
     (λ c. search needs)
     (λ c κs. search needs)
-    (λ c. rw (c .all-finite .ensures)))
+    (λ c κs. search needs)
+    (λ c.
+    let c4 = c .before .before .before .before in
+    rw (c4 .all-finite .ensures)))

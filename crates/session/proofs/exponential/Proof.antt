@@ -6,7 +6,7 @@ use lib.Seq.{length-take-le}
 use Rattle.session.specs.Tests.{unless}
 use Rattle.session.specs.Bare.{exponentialCall}
 use Rattle.session.proofs.Tests.{unless-refused}
-use Rattle.session.proofs.Laws.{area20, exponential-sized}
+use Rattle.session.proofs.Laws.{area20, exponential-sized, filled-is, unfilled-is}
 use Rattle.session.proofs.Attempts.{copied}
 use Rattle.session.proofs.exponential.Statement.{statement}
 use Rattle.session.proofs.exponential.Tie as tie
@@ -51,7 +51,7 @@ exponential-spec =
     let s = exponential-sized _ _ _ (sym (c11 .exponential-fault .ensures) ∙ c10 .if1 .taken) in
     let e = copied (c14 .args .m .now) _ (c8 .put .last .1 .0) _ (c8 .put .ensures) (s .1 .0) (area20 (s .0)) in
     let f = rw e at (c4 .matrix-exp .ensures) in
-    rw (← (c11 .exponential-fault .ensures), c10 .if1 .taken, f .output, sym (f .test) ∙ c .if2 .taken))
+    rw (← (c11 .exponential-fault .ensures), c10 .if1 .taken) (filled-is _ _ _ _ _ _ f (c .if2 .taken)))
     (λ c. search needs)
     (λ c.
     let c4 = c .before .before .before .before in
@@ -62,7 +62,7 @@ exponential-spec =
     let s = exponential-sized _ _ _ (sym (c11 .exponential-fault .ensures) ∙ c10 .if1 .taken) in
     let e = copied (c14 .args .m .now) _ (c8 .put .last .1 .0) _ (c8 .put .ensures) (s .1 .0) (area20 (s .0)) in
     let f = rw e at (c4 .matrix-exp .ensures) in
-    rw (← (c11 .exponential-fault .ensures), c10 .if1 .taken, f .output, sym (f .test) ∙ c .if2 .left))
+    rw (← (c11 .exponential-fault .ensures), c10 .if1 .taken) (unfilled-is _ _ _ _ _ _ f (c .if2 .left)))
     (λ c.
     let c1 = c .before in
     rw (← (c1 .exponential-fault .ensures)) (unless-refused _ _ _ (c .if1 .left))))

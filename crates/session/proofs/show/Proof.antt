@@ -21,15 +21,15 @@ show-spec =
     (λ c κs.
     let c4 = c .before .before .before .before in
     let c8 = c4 .before .before .before .before in
-    let c10 = c8 .before .before in
-    c10 .pre .0)
+    let c11 = c8 .before .before .before in
+    c11 .pre .0)
     (λ c. search needs)
     (λ c.
-    let c2 = c .before .before in
-    let c5 = c2 .before .before .before in
-    let c8 = c5 .before .before .before in
-    let c11 = c8 .before .before .before in
-    λ old. show-ok old _ _ _ (c8 .run-pass .result) _ (c8 .run-pass .ensures) _ (c2 .if1 .taken) (c11 .pre .1) (c5 .copy-if .ensures) (c .answer-of .ensures))
+    let c3 = c .before .before .before in
+    let c6 = c3 .before .before .before in
+    let c9 = c6 .before .before .before in
+    let c12 = c9 .before .before .before in
+    λ old. show-ok old _ _ _ (c9 .run-pass .result) _ (c9 .run-pass .ensures) _ (c3 .if1 .taken) (c12 .pre .1) (c6 .copy-if .ensures) (c .answer-of .ensures))
     (λ c. search needs)
     (λ c.
     let c3 = c .before .before .before in
