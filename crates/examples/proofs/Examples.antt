@@ -7,13 +7,13 @@ use Rattle.loops.specs.Loop.{iter, every, from, tab, mat, fill, stores}
 use Rattle.float.specs.Arith.{finite, plusZero, abs, larger, sumOf, most}
 use Rattle.float.specs.Root.{floorRoot, nearestRoot, root}
 use Rattle.evaluation.specs.Evaluation.{allFinite}
-use Rattle.matrix.specs.Matrix.{identity, matMul, divAll, addAll, maxAbs, rowSum, norm, admitted, enough, least, squarings, scaled, nextTerm, small, series, taylor, squared, exponential}
+use Rattle.matrix.specs.Matrix.{identity, matMul, divAll, addAll, maxAbs, rowSum, norm, admitted, enough, least, squarings, scaled, nextTerm, small, series, taylor, squared, exponential, reach}
 use Rattle.matrix.specs.Vector.{zeros, vec, matVec}
 use Rattle.methods.specs.Numbers.{num, minus, decimal}
 use Rattle.methods.specs.Vectors.{add as plus, subtract, scale, axpy, axpyAll, combine}
 use Rattle.methods.specs.Phi.{checked, over, augmentedEntry, augmented, phiAction, phiTerm, expAction}
-use Rattle.methods.specs.Tally.{clean, joined}
-use Rattle.methods.specs.Pass.{also, _>>=_, answer, replay}
+use Rattle.methods.specs.Tally.{tested, clean, single as reports, joined, workOf}
+use Rattle.methods.specs.Pass.{also, _>>=_, counting, under, answer, replay}
 use Rattle.methods.specs.Schemes.{lawsonEuler, norsettEuler, etd2, exprb32}
 use Rattle.methods.specs.Step.{pass, questions, finish, performStep}
 use Rattle.engine.specs.Engine.{delta, perturbedEntry, perturbed, jacobianEntry, columnOk, ratio, rootMean, errorNorm, rate, estimate, clamp, byRates, firstStep}
@@ -23,9 +23,9 @@ use Rattle.session.specs.Session.{sizeOk, runPlaces, attemptPlaces, good1, hist
 use Rattle.session.specs.Session.{isHeld, pointOf, question, differencing, progressOf, progress}
 use Rattle.session.specs.Calls.{opened, nothing, begun, answered, hasError, readyOf, shown, vectorTests, attemptOf, attemptTests, largestTests}
 use Rattle.session.specs.Calls.{beginTests, supplyTests, firstStepTests, openCall, beginCall, supplyCall, firstStepCall}
-use Rattle.session.specs.Bare.{exponentialTests, normTests, exponentialCall, normCall}
+use Rattle.session.specs.Bare.{exponentialTests, phiTests, normTests, exponentialCall, phiCall, normCall}
 use Rattle.examples.specs.Examples.{only, pair, lent, running, resting, remembering, tolerating, begins, supplies, Gives, single, Squares, asked, differenced, jacobianOf}
-use Rattle.examples.specs.Examples.{Examples, OwnTolerances}
+use Rattle.examples.specs.Examples.{Examples, OwnTolerances, Reaches}
 
 -- ---- what is opened to compute
 
@@ -36,13 +36,14 @@ doubles = 0
 
 -- loops, vectors and matrices
 unfoldable matrices : ℕ
-unfolding iter every from tab mat fill stores allFinite identity matMul divAll addAll maxAbs rowSum norm admitted enough least squarings scaled nextTerm small series taylor squared exponential
+unfolding iter every from tab mat fill stores allFinite identity matMul divAll addAll maxAbs rowSum norm admitted enough least squarings scaled nextTerm small series taylor squared exponential reach
     zeros vec matVec plus subtract scale axpy axpyAll combine
 matrices = 0
 
 -- the schemes
 unfoldable schemes : ℕ
-unfolding clean joined checked over augmentedEntry augmented phiAction phiTerm expAction also _>>=_ answer replay lawsonEuler norsettEuler etd2 exprb32 pass questions finish performStep
+unfolding tested clean reports joined workOf checked over augmentedEntry augmented phiAction phiTerm expAction
+    also _>>=_ counting under answer replay lawsonEuler norsettEuler etd2 exprb32 pass questions finish performStep
 schemes = 0
 
 -- the differencing, and the tests of a session
@@ -59,7 +60,7 @@ calls = 0
 
 -- the bare calls, the error norm and the first step
 unfoldable bare : ℕ
-unfolding floorRoot nearestRoot root ratio rootMean errorNorm rate estimate clamp byRates firstStep exponentialTests normTests exponentialCall normCall single Squares jacobianOf
+unfolding floorRoot nearestRoot root ratio rootMean errorNorm rate estimate clamp byRates firstStep exponentialTests phiTests normTests exponentialCall phiCall normCall single Squares jacobianOf
 bare = 0
 
 -- ---- THE STATEMENT
@@ -97,3 +98,7 @@ examples = record {
 pub own-tolerances : OwnTolerances
 unfolding doubles matrices tests calls bare
 own-tolerances = record { errorNorm = refl; firstStep = refl; refused-1 = refl; refused-4 = refl }
+
+pub reaches : Reaches
+unfolding doubles matrices schemes tests calls bare
+reaches = record { zero = refl; half = refl; one = refl; phiAction = refl }

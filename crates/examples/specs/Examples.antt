@@ -13,13 +13,13 @@ use Rattle.methods.specs.Sizes.{etd2Number, exprb32Number}
 use Rattle.engine.specs.Engine.{jacobianEntry}
 use Rattle.session.specs.declared.Session.{Session}
 use Rattle.session.specs.declared.Told.{Told}
-use Rattle.session.specs.declared.Answer.the-variants.{Ask, Ready, FirstStep, Norm, Refused}
+use Rattle.session.specs.declared.Answer.the-variants.{Ask, Ready, FirstStep, Filled, Norm, Refused}
 use Rattle.session.specs.declared.History.{History}
 use Rattle.session.specs.declared.History.the-variants.{Missing, Held}
 use Rattle.session.specs.declared.Wish.the-variants.{Given, Difference}
 use Rattle.session.specs.Session.{Run}
 use Rattle.session.specs.Calls.{Outcome, openCall, beginCall, supplyCall, firstStepCall}
-use Rattle.session.specs.Bare.{exponentialCall, normCall}
+use Rattle.session.specs.Bare.{exponentialCall, phiCall, normCall}
 
 -- ---- what the lines are about: n = 1, time 0, both tolerances 1
 
@@ -78,9 +78,9 @@ begins opened j h = beginCall (opened .session) h Given (j ∷ replicate 255 zer
 unfoldable pub supplies : Outcome → Float → Outcome
 supplies begun f = supplyCall (begun .told .session) (only f) lent
 
--- no question is asked: the step is ready at once, and its candidate is x
-unfoldable pub Gives : Outcome → Float → Type 0
-Gives r x = (r .told .answer ≡ Ready zero+ 0 1) × (r .out ≡ x ∷ [])
+-- no question is asked: the step is ready at once, its candidate is x, and its exponentials took so many matrix products
+unfoldable pub Gives : Outcome → Float → ℕ → Type 0
+Gives r x products = (r .told .answer ≡ Ready zero+ 0 1 products) × (r .out ≡ x ∷ [])
 
 -- the numbers of the schemes
 abbrev pub LawsonEuler : ℕ
@@ -116,20 +116,20 @@ jacobianOf s = mat 1 (jacobianEntry (s .state) (s .derivative) (s .answers))
 -- ---- THE STATEMENT: J = [0], u = 1, f0 = 2, h = 1 unless said
 pub record Examples : Type 0 where
   -- 'NorsettEuler 3'
-  pub norsettEuler : Gives (begins (resting NorsettEuler (num 1) (num 2)) zero+ (num 1)) (num 3)
+  pub norsettEuler : Gives (begins (resting NorsettEuler (num 1) (num 2)) zero+ (num 1)) (num 3) 4
   -- 'with h = 0.5, 2'
-  pub norsettEuler-half : Gives (begins (resting NorsettEuler (num 1) (num 2)) zero+ (decimal 5 1)) (num 2)
+  pub norsettEuler-half : Gives (begins (resting NorsettEuler (num 1) (num 2)) zero+ (decimal 5 1)) (num 2) 4
   -- 'with u and f0 negated, −3'
-  pub norsettEuler-negated : Gives (begins (resting NorsettEuler (minus 1) (minus 2)) zero+ (num 1)) (minus 3)
+  pub norsettEuler-negated : Gives (begins (resting NorsettEuler (minus 1) (minus 2)) zero+ (num 1)) (minus 3) 4
   -- 'LawsonEuler 3'
-  pub lawsonEuler : Gives (begins (resting LawsonEuler (num 1) (num 2)) zero+ (num 1)) (num 3)
+  pub lawsonEuler : Gives (begins (resting LawsonEuler (num 1) (num 2)) zero+ (num 1)) (num 3) 1
   -- 'Etd2 without history 3'
-  pub etd2 : Gives (begins (resting Etd2 (num 1) (num 2)) zero+ (num 1)) (num 3)
+  pub etd2 : Gives (begins (resting Etd2 (num 1) (num 2)) zero+ (num 1)) (num 3) 5
   -- 'with history 1, 3.5'
-  pub etd2-history : Gives (begins (remembering Etd2 (num 1) (num 2) (num 1)) zero+ (num 1)) (decimal 35 1)
+  pub etd2-history : Gives (begins (remembering Etd2 (num 1) (num 2) (num 1)) zero+ (num 1)) (decimal 35 1) 14
   -- 'Exprb32 with derivative 2 supplied: error norm 0': one question, at time 1
   pub exprb32-asks : begins (resting Exprb32 (num 1) (num 2)) zero+ (num 1) .told .answer ≡ Ask (num 1)
-  pub exprb32 : supplies (begins (resting Exprb32 (num 1) (num 2)) zero+ (num 1)) (num 2) .told .answer ≡ Ready zero+ 1 1
+  pub exprb32 : supplies (begins (resting Exprb32 (num 1) (num 2)) zero+ (num 1)) (num 2) .told .answer ≡ Ready zero+ 1 1 16
   -- 's for norm 0.5 is 0'
   pub s-half : Squares 0x3fe0_0000_0000_0000 0
   -- 'just above 0.5, 1'
@@ -144,7 +144,7 @@ pub record Examples : Type 0 where
   pub s-above-top : exponentialCall 1 (single 0x41e0_0000_0000_0001) lent .answer ≡ Refused 6
   -- 'Differencing 4·u at 1 gives 4'
   pub differencing-asks : asked .told .answer ≡ Ask zero+
-  pub differencing-ready : differenced .told .answer ≡ Ready zero+ 1 1
+  pub differencing-ready : differenced .told .answer ≡ Ready zero+ 1 1 16
   pub differencing : jacobianOf (differenced .told .session) ≡ num 4 ∷ []
   -- 'Bare error norm, n = 1, error −3, state and candidate 0, both tolerances 1: 3'
   pub errorNorm : normCall 1 (num 1) (only (num 1)) (only (minus 3)) (only zero+) (only zero+) ≡ Norm (num 3)
@@ -175,3 +175,14 @@ pub record OwnTolerances : Type 0 where
   pub refused-1 : tolerating (replicate 16 (num 1)) .answer ≡ Refused 1
   -- the second of two is not positive
   pub refused-4 : tolerating (pair (num 1) zero+) .answer ≡ Refused 4
+
+-- ---- request 2: the exponential tells how far it went
+pub record Reaches : Type 0 where
+  -- the zero matrix: its first term is added and found small; the identity is no term
+  pub zero : exponentialCall 1 (single 0) lent .answer ≡ Filled 1 0
+  -- [0.5] takes 15 terms, the most that there are
+  pub half : exponentialCall 1 (single 0x3fe0_0000_0000_0000) lent .answer ≡ Filled 15 0
+  -- [1] is halved, and squared once
+  pub one : exponentialCall 1 (single 0x3ff0_0000_0000_0000) lent .answer ≡ Filled 15 1
+  -- phi_1 of 2 at J = [0]: a matrix whose square is zero, divided by 4
+  pub phiAction : phiCall 1 1 (num 1) (zero+ ∷ []) (num 2 ∷ []) lent .answer ≡ Filled 2 2

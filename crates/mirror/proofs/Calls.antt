@@ -14,7 +14,8 @@ use Rattle.methods.specs.Step.{Progress, refused, asking, ended}
 use Rattle.engine.specs.Engine.{firstStep}
 use Rattle.session.specs.declared.Session.{Session}
 use Rattle.session.specs.declared.Told.{Told}
-use Rattle.session.specs.declared.Answer.the-variants.{Ready, FirstStep, Refused}
+use Rattle.methods.specs.declared.Work.{Work}
+use Rattle.session.specs.declared.Answer.the-variants.{Ready, FirstStep}
 use Rattle.session.specs.declared.Attempt.{Attempt}
 use Rattle.session.specs.declared.Attempt.the-variants.{Supplied, Differenced}
 use Rattle.session.specs.declared.Wish.{Wish}
@@ -24,11 +25,10 @@ use Rattle.session.specs.declared.Wants.{Wants}
 use Rattle.session.specs.declared.Wants.the-variants.{Any, Only}
 use Rattle.session.specs.Tests.{fault, unless}
 use Rattle.session.specs.Values.{isRefused, valuesOf, figured}
-use Rattle.session.specs.Session.{Run, usedHistory, usedJacobian, sizeOk, wanted, stepOk, good1, sessionTests}
+use Rattle.session.specs.Session.{Run, usedJacobian, sizeOk, wanted, good1, sessionTests}
 use Rattle.session.specs.Calls.{Outcome, outcome, tell, refuse, refuseLent, opened, nothing, hasError, readyOf, shown, arrived, settled, attemptOf}
 use Rattle.session.specs.Calls.{vectorTests, attemptTests, largestTests, beginTests, supplyTests, acceptTests, firstStepTests}
 use Rattle.session.specs.Calls.{openCall, beginCall, supplyCall, acceptCall, dropCall, firstStepCall}
-use Rattle.session.specs.Runs.{Call, perform}
 use Rattle.session.proofs.Drops.{nothing-fault, nothing-then}
 use Rattle.mirror.specs.Mirror.{within}
 use Rattle.mirror.proofs.Vectors.{Vecs, cross}
@@ -74,19 +74,19 @@ module _ {n : ℕ} {σ : ℕ → Bool} where
   lent-m {s} {s'} o o' k k' e S = unless-m (Outcomes n σ) k k' (refuseLent s o) (refuseLent s' o') e (λ j. refused-outcome j S)
 
   -- ---- what a step comes to
-  ready-m : {s s' : Session} {x x' e e' : List Float} → Lives n σ s s' → Vecs n σ x x' → Vecs n σ e e' → readyOf s x e ≡ readyOf s' x' e'
+  ready-m : {s s' : Session} {x x' e e' : List Float} (work : Work) → Lives n σ s s' → Vecs n σ x x' → Vecs n σ e e' → readyOf s x e work ≡ readyOf s' x' e' work
   unfolding readyOf
-  ready-m (live N (run-m k t rtol atol held U F W) (trial-m h a c D J R)) X E =
-      ap (λ (z : Float). Ready (cond (hasError k) z zero+) (wanted k n a) 1) (norm-m rtol atol (vecs U) X E)
+  ready-m work (live N (run-m k t rtol atol held U F W) (trial-m h a c D J R)) X E =
+      ap (λ (z : Float). Ready (cond (hasError k) z zero+) (wanted k n a) 1 (work .products)) (norm-m rtol atol (vecs U) X E)
 
   shown-m : {b b' s s' : Session} (o o' : List Float) {p p' : Progress} → Lives n σ b b' → Lives n σ s s' → Progresses n σ p p' → Outcomes n σ (shown b s o p) (shown b' s' o' p')
   unfolding shown
   shown-m o o' B S refused-m = refused-outcome 6 (alive B)
   shown-m o o' B (live N (run-m k t rtol atol held U F W) T) (asking-m z X) =
       record { tolds = record { answers = refl; sessions = alive (live N (run-m k t rtol atol held U F W) T) }; outs = λ e. written-m X }
-  shown-m o o' B (live N (run-m k t rtol atol held U F W) T) (ended-m X E G) =
+  shown-m o o' B (live N (run-m k t rtol atol held U F W) T) (ended-m work X E G) =
       let S = live N (run-m k t rtol atol held U F W) T in
-      record { tolds = record { answers = ready-m S X E; sessions = alive S }; outs = λ e. written-m X }
+      record { tolds = record { answers = ready-m work S X E; sessions = alive S }; outs = λ e. written-m X }
 
   pick-m : {r r' z z' : Told} (b : Bool) → Tolds n σ r r' → Tolds n σ z z' → Tolds n σ (cond b r z) (cond b r' z')
   pick-m true R Z = R
@@ -96,7 +96,7 @@ module _ {n : ℕ} {σ : ℕ → Bool} where
   unfolding settled arrived
   settled-m S F refused-m = refused-told 6 (alive S)
   settled-m S F (asking-m t X) = refused-told 6 (alive S)
-  settled-m (live N (run-m k t rtol atol held U F0 W) (trial-m h a c D J R)) F (ended-m X E G) =
+  settled-m (live N (run-m k t rtol atol held U F0 W) (trial-m h a c D J R)) F (ended-m work X E G) =
       let S = live N (run-m k t rtol atol held U F0 W) (trial-m h a c D J R) in
       pick-m (finite (t ⊕ h)) (record { answers = refl; sessions = alive (moved-m (t ⊕ h) S (placed X) F (placed G)) }) (refused-told 6 (alive S))
 
@@ -154,7 +154,7 @@ shown-refused : (b s : Session) (o : List Float) (p : Progress) → isRefused (s
 unfolding shown readyOf isRefused valuesOf figured
 shown-refused b s o refused e = refl
 shown-refused b s o (asking x t) e = absurd (false≢true e)
-shown-refused b s o (ended x d g) e = absurd (false≢true e)
+shown-refused b s o (ended x d g w) e = absurd (false≢true e)
 
 -- ---- refusals by 1 for the dimension
 fault-size : (wants : Wants) (s : Session) → sizeOk (s .n) ≡ false → fault (sessionTests wants s) ≡ 1

@@ -14,7 +14,9 @@ use Rattle.loops.proofs.Loops.{every-ext}
 use Rattle.float.proofs.Signs.{unlike-self, unlike-false, inner}
 use Rattle.float.proofs.Sums.{most-ext}
 use Rattle.float.specs.Arith.{_⊗_, zero+, one, epsilon, limit, finite, abs, most}
-use Rattle.matrix.specs.Matrix.{at, identity, matMul, divAll, addAll, maxAbs, rowSum, norm, admitted, squarings, power, scaled, nextTerm, small, Series, series, taylor, squared, exponential}
+use Rattle.matrix.specs.Matrix.{at, identity, matMul, divAll, addAll, maxAbs, rowSum, norm, admitted, squarings, power, scaled, nextTerm, small, Series, series, taylor, squared, exponential, reach}
+use Rattle.matrix.specs.Vector.{zeros}
+use Rattle.matrix.specs.declared.Reach.{Reach}
 use Rattle.methods.specs.declared.Action.{Action}
 use Rattle.methods.specs.Phi.{checked, over, augmentedEntry, augmented, phiAction, phiTerm, expAction}
 use Rattle.mirror.proofs.Floats.{Mirror, m-refl, add-m, mul-m, mul-same, div-m, abs-m, zero-m, agrees}
@@ -107,18 +109,28 @@ module _ {n : ℕ} {σ : ℕ → Bool} where
   unfolding exponential
   exp-m A = exp-at _ _ (ap squarings (norm-m A)) A
 
+  -- it goes as far
+  terms-at : (s s' : ℕ) → s ≡ s' → {a a' : List Float} → Mats n σ a a' → taylor (scaled a s) n .terms ≡ taylor (scaled a' s') n .terms
+  unfolding taylor scaled
+  terms-at s s' e {a} {a'} A =
+      subst (λ (z : ℕ). taylor (scaled a s) n .terms ≡ taylor (scaled a' z) n .terms) e (series-m 128 1 (divAll-m (power s) A) identity-m identity-m .terms)
+
+  pub reach-m : {a a' : List Float} → Mats n σ a a' → reach a n ≡ reach a' n
+  unfolding reach exponential
+  reach-m A = let s = ap squarings (norm-m A) in rw (admitted-m A, terms-at _ _ s A, s)
+
 -- ---- actions
 pub record Actions (n : ℕ) (σ : ℕ → Bool) (p q : Action) : Type 0 where
   pub tallies : p .tally ≡ q .tally
   pub vs : Vecs n σ (p .v) (q .v)
 
-checked-m : {n : ℕ} {σ : ℕ → Bool} (b b' : Bool) {x x' : List Float} → b ≡ b' → Vecs n σ x x' → Actions n σ (checked b x) (checked b' x')
+checked-m : {n : ℕ} {σ : ℕ → Bool} (r r' : Reach) {x x' : List Float} → r ≡ r' → Vecs n σ x x' → Actions n σ (checked r x) (checked r' x')
 unfolding checked
-checked-m {n} {σ} b b' {x} {x'} e p = subst (λ (c : Bool). Actions n σ (checked b x) (checked c x')) e (go b)
+checked-m {n} {σ} r r' {x} {x'} e p = subst (λ (t : Reach). Actions n σ (checked r x) (checked t x')) e (record { tallies = refl; vs = go (r .ok) })
   where
-    go : (c : Bool) → Actions n σ (checked c x) (checked c x')
-    go true = record { tallies = refl; vs = p }
-    go false = record { tallies = refl; vs = zeros-m }
+    go : (c : Bool) → Vecs n σ (cond c x zeros) (cond c x' zeros)
+    go true = p
+    go false = zeros-m
 
 -- σ below n, and no sign turned past it
 ext : ℕ → (ℕ → Bool) → ℕ → Bool
@@ -163,7 +175,7 @@ module _ {n : ℕ} {σ : ℕ → Bool} where
       let M = augmented-m c order A X in
       let l : n + order - 1 < n + order = omega arith in
       let g : n ≤ n + order - 1 = omega arith in
-      checked-m _ _ (admitted-m M)
+      checked-m _ _ (reach-m M)
       (vec-m n σ _ _ (λ i h. m-sign (ap₂ unlike (ext-below n σ i h) (ext-past n σ (n + order - 1) g) ∙ unlike-false (σ i)) (cell (exp-m M) i (n + order - 1) l)))
 
   pub over-m : {f f' : List Float → List Float} {p p' : Action} → Actions n σ p p' → ((x x' : List Float) → Vecs n σ x x' → Vecs n σ (f x) (f' x')) → Actions n σ (over f p) (over f' p')
@@ -178,4 +190,4 @@ module _ {n : ℕ} {σ : ℕ → Bool} where
   unfolding expAction
   expAction-m c A X =
       let M = mat-m n σ _ _ (λ i j h k. mul-same c (cell A i j k)) in
-      checked-m _ _ (admitted-m M) (matVec-m (exp-m M) X)
+      checked-m _ _ (reach-m M) (matVec-m (exp-m M) X)
