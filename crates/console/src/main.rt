@@ -64,17 +64,18 @@ fn vector(b: &[u8], at: usize) -> [f64; image::VECTOR]
 // ---- replies
 
 fn put_reply(b: &mut [u8], r: image::Reply)
-    requires { ⌜ length (now b) ≡ 18 ⌝ }
+    requires { ⌜ length (now b) ≡ 22 ⌝ }
 {
     wire::write_f64(&mut *b, 2, r.figure);
-    wire::write_u32(&mut *b, 10, r.rhs);
-    wire::write_u32(&mut *b, 14, r.jacobians);
+    wire::write_u32(&mut *b, 10, r.counts[0]);
+    wire::write_u32(&mut *b, 14, r.counts[1]);
+    wire::write_u32(&mut *b, 18, r.counts[2]);
     b[0] = r.outcome;
     b[1] = r.refusal;
 }
 
 fn say(answer: Answer) -> bool {
-    let mut b = [0u8; 18];
+    let mut b = [0u8; 22];
     put_reply(&mut b, image::reply_of(answer));
     io::write_all(1, &b)
 }

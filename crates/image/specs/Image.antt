@@ -1,5 +1,5 @@
 -- A session's image: its head, as words, and the figures that it crosses to other programs as, and what is told of an answer. Definitions only.
-use Prim.Native.Nat.{ℕ, _+_, _*_, _≤_, _<_}
+use Prim.Native.Nat.{ℕ, _+_, _≤_, _<_}
 use mathlib.Core.Path.{_≡_}
 use mathlib.Core.Bool.{cond}
 use mathlib.Core.List.{List, [], _∷_}
@@ -60,14 +60,14 @@ outcomeAt = 0
 abbrev pub refusalAt : ℕ
 refusalAt = outcomeAt + 1
 
-abbrev pub rhsAt : ℕ
-rhsAt = refusalAt + 1
+abbrev pub countsAt : ℕ
+countsAt = refusalAt + 1
 
-abbrev pub jacobiansAt : ℕ
-jacobiansAt = rhsAt + 1
+abbrev pub COUNTS : ℕ
+COUNTS = 3
 
 abbrev pub WORDS : ℕ
-WORDS = jacobiansAt + 1
+WORDS = countsAt + COUNTS
 
 -- ---- enums as numbers: a number above the last counts as it
 
@@ -138,4 +138,4 @@ pub record Inverse : Type 0 where
 
 -- a reply's fields
 abbrev pub fields : Reply → Values
-fields r = record { outcome = r .outcome; refusal = r .refusal; figure = r .figure; rhs = r .rhs; jacobians = r .jacobians }
+fields r = record { outcome = r .outcome; refusal = r .refusal; figure = r .figure; counts = r .counts }

@@ -65,16 +65,17 @@ pub const BYTES: usize = NUMBERS + 8 * FIGURES;
 
 pub const OLD_BYTES: usize = NUMBERS + 8 * OLD_FIGURES;
 
-// Among the words in which a reply's outcome, refusal and counts cross.
+// Among the words in which a reply's outcome, refusal and counts cross. Of Ready the counts are right-hand sides, Jacobians and matrix
+// products; of Filled terms, squarings and 0; of any other outcome 0.
 pub const OUTCOME_AT: usize = 0;
 
 pub const REFUSAL_AT: usize = OUTCOME_AT + 1;
 
-pub const RHS_AT: usize = REFUSAL_AT + 1;
+pub const COUNTS_AT: usize = REFUSAL_AT + 1;
 
-pub const JACOBIANS_AT: usize = RHS_AT + 1;
+pub const COUNTS: usize = 3;
 
-pub const WORDS: usize = JACOBIANS_AT + 1;
+pub const WORDS: usize = COUNTS_AT + COUNTS;
 
 // The outcomes' numbers.
 pub const REFUSED: u8 = 0;
@@ -96,8 +97,7 @@ pub struct Reply {
     pub outcome: u8,
     pub refusal: u8,
     pub figure: f64,
-    pub rhs: u32,
-    pub jacobians: u32,
+    pub counts: [u32; COUNTS],
 }
 
 // ---- enums as numbers
@@ -218,8 +218,7 @@ fn plain(outcome: u8, figure: f64) -> Reply
         outcome: outcome,
         refusal: 0,
         figure: figure,
-        rhs: 0,
-        jacobians: 0,
+        counts: [0; COUNTS],
     }
 }
 
@@ -228,23 +227,26 @@ pub fn reply_of(answer: Answer) -> Reply
 {
     match answer {
         Answer::Ask(time) => plain(ASK, time),
-        Answer::Ready(norm, rhs, jacobians) => Reply {
+        Answer::Ready(norm, rhs, jacobians, products) => Reply {
             outcome: READY,
             refusal: 0,
             figure: norm,
-            rhs: rhs,
-            jacobians: jacobians,
+            counts: [rhs, jacobians, products],
         },
         Answer::Resting => plain(RESTING, 0.0),
         Answer::FirstStep(step) => plain(FIRST_STEP, step),
-        Answer::Filled => plain(FILLED, 0.0),
+        Answer::Filled(terms, squarings) => Reply {
+            outcome: FILLED,
+            refusal: 0,
+            figure: 0.0,
+            counts: [terms, squarings, 0],
+        },
         Answer::Norm(norm) => plain(NORM, norm),
         Answer::Refused(k) => Reply {
             outcome: REFUSED,
             refusal: k,
             figure: 0.0,
-            rhs: 0,
-            jacobians: 0,
+            counts: [0; COUNTS],
         },
     }
 }

@@ -49,8 +49,8 @@ fn figures() {
 fn words() {
     say(b"OUTCOME_AT", image::OUTCOME_AT);
     say(b"REFUSAL_AT", image::REFUSAL_AT);
-    say(b"RHS_AT", image::RHS_AT);
-    say(b"JACOBIANS_AT", image::JACOBIANS_AT);
+    say(b"COUNTS_AT", image::COUNTS_AT);
+    say(b"COUNTS", image::COUNTS);
     say(b"WORDS", image::WORDS);
 }
 

@@ -1,15 +1,20 @@
--- What the length tests of a call show. Assumes nothing.
-use mathlib.Core.Path.{_≡_, refl, sym, _∙_}
+-- What the length tests of a call show, and what its words say. Assumes nothing.
+use mathlib.Core.Path.{_≡_, refl, sym, ap, _∙_}
 use mathlib.Core.Bool.{Bool, true, false, _&&_}
-use mathlib.Core.List.{List}
+use mathlib.Core.List.{List, _∷_}
 use lib.Dec.{eqb}
 use lib.Ieee.{Float}
-use lib.ListN.{length}
+use lib.ListN.{length, set, getD}
 use Prim.Native.Nat.{ℕ}
 use borrow.Author.Tests.{eqb-true, eq-eqb}
+use Rattle.loops.specs.Loop.{tab, from}
+use Rattle.session.specs.declared.Answer.{Answer}
+use Rattle.session.specs.declared.Answer.the-variants.{Ask, Ready, Resting, FirstStep, Filled, Norm, Refused}
+use Rattle.session.specs.Values.{Values, valuesOf, figured}
 use Rattle.session.specs.Figures.{FIGURES}
+use Rattle.image.proofs.Inverse.{spelt}
 use Rattle.image.specs.Image.{VECTOR, NUMBERS, WORDS}
-use Rattle.library.specs.Library.{Room, Slices, heard, fitting, vectors, Hears, Fits}
+use Rattle.library.specs.Library.{Room, Slices, heard, fitting, vectors, Hears, Fits, wordsOf}
 
 -- ---- both halves of a test
 
@@ -74,3 +79,22 @@ right-two a b c d e f = rw (eq-eqb a b e, eq-eqb c d f)
 
 pub right-five : (a b c d e m n : ℕ) → a ≡ m → b ≡ n → c ≡ n → d ≡ n → e ≡ n → (eqb a m && eqb b n && eqb c n && eqb d n && eqb e n) ≡ true
 right-five a b c d e m n o p q r s = rw (eq-eqb a m o, eq-eqb b n p, eq-eqb c n q, eq-eqb d n r, eq-eqb e n s)
+
+-- ---- what is told, in words
+
+-- three counts of every answer
+pub counts-three : (a : Answer) → length (valuesOf a .counts) ≡ 3
+unfolding valuesOf figured
+counts-three (Ask time) = refl
+counts-three (Ready norm rhs jacobians products) = refl
+counts-three Resting = refl
+counts-three (FirstStep step) = refl
+counts-three (Filled terms squarings) = refl
+counts-three (Norm norm) = refl
+counts-three (Refused k) = refl
+
+-- the words that are stored one by one
+pub said-words : (l : List ℕ) (v : Values) → length l ≡ WORDS → length (v .counts) ≡ 3
+    → set (set (set (set (set l 0 (v .outcome)) 1 (v .refusal)) 2 (getD (v .counts) 0 0)) 3 (getD (v .counts) 1 0)) 4 (getD (v .counts) 2 0) ≡ wordsOf v
+unfolding tab from
+said-words l v h k = rw (spelt 0 WORDS l h) (ap (λ z. v .outcome ∷ v .refusal ∷ z) (sym (spelt 0 3 (v .counts) k)))

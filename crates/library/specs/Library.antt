@@ -63,9 +63,9 @@ pub record Fits (l : Slices) : Type 0 where
 
 -- ---- what a call leaves
 
--- outcome, refusal, right-hand sides, Jacobians
+-- outcome, refusal, and the three counts
 abbrev pub wordsOf : Values → List ℕ
-wordsOf v = v .outcome ∷ v .refusal ∷ v .rhs ∷ v .jacobians ∷ []
+wordsOf v = v .outcome ∷ v .refusal ∷ v .counts
 
 -- the answer, in words and told
 pub record Said (answer : Answer) (after : Room) : Type 0 where

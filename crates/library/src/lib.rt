@@ -1,9 +1,10 @@
 // The calls for programs in other languages. A session crosses as two lent slices, its image: `numbers` and `figures` (crate image).
 //
 // Each function tests every length itself and requires nothing. It returns 0 where the call was made, and 1 where a slice has another length
-// than its own; then nothing is touched. What the call tells is left in `words`, 4 of them (outcome, refusal, right-hand sides, Jacobians), and
-// `told`, one figure: Ask's time, Ready's error norm, the first step, the norm, otherwise +0.0. Outcomes: 0 Refused, 1 Ask, 2 Ready,
-// 3 Resting, 4 First step, 5 Filled, 6 Norm.
+// than its own; then nothing is touched. What the call tells is left in `words`, 5 of them (outcome, refusal, three counts), and `told`, one
+// figure: Ask's time, Ready's error norm, the first step, the norm, otherwise +0.0. Outcomes: 0 Refused, 1 Ask, 2 Ready, 3 Resting,
+// 4 First step, 5 Filled, 6 Norm. The counts are, of Ready, right-hand sides, Jacobians and matrix products; of Filled, terms, squarings and
+// 0; otherwise 0.
 //
 // A call works on the figures that it is lent, copies no session, and writes only what changes. A refused call leaves numbers, figures and
 // output as they were. A refused open overwrites numbers and figures, whatever they held: they become those of the session that a refused open
@@ -56,6 +57,11 @@ fn four(w: &[f64], x: &[f64], y: &[f64], z: &[f64]) -> bool
 
 // ---- what is told
 
+// Where the second and the third count stand.
+const SECOND_AT: usize = image::COUNTS_AT + 1;
+
+const THIRD_AT: usize = SECOND_AT + 1;
+
 // Leaves what is told of an answer; whether it is a refusal.
 fn say(answer: Answer, words: &mut [u64], told: &mut [f64]) -> bool
     requires { ⌜ Hears (room (now words) (now told)) ⌝ }
@@ -64,8 +70,9 @@ fn say(answer: Answer, words: &mut [u64], told: &mut [f64]) -> bool
     let r = image::reply_of(answer);
     words[image::OUTCOME_AT] = r.outcome as u64;
     words[image::REFUSAL_AT] = r.refusal as u64;
-    words[image::RHS_AT] = r.rhs as u64;
-    words[image::JACOBIANS_AT] = r.jacobians as u64;
+    words[image::COUNTS_AT] = r.counts[0] as u64;
+    words[SECOND_AT] = r.counts[1] as u64;
+    words[THIRD_AT] = r.counts[2] as u64;
     told[0] = r.figure;
     r.outcome == image::REFUSED
 }

@@ -1,6 +1,6 @@
 -- `console::put_reply` meets its contract. Assumes nothing.
-use native.Mathlib.Omega.{arith}
 use borrow.Author.Needs.{needs}
+use native.Mathlib.Omega.{arith}
 use lib.ListN.{length-set}
 use Rattle.console.proofs.put_reply.Statement.{statement}
 use Rattle.console.proofs.put_reply.Tie as tie
@@ -10,7 +10,11 @@ put-reply-spec =
     tie.close
     (tie.spec
     (λ c κs. search needs)
+    (λ c. search needs)
     (λ c κs. search needs)
+    (λ c. search needs)
+    (λ c κs. search needs)
+    (λ c. search needs)
     (λ c κs. search needs)
     (λ c. search needs)
     (λ c. simp length-set (omega arith))

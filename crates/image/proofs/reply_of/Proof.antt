@@ -17,14 +17,27 @@ reply-of-spec =
     (λ c. search needs)
     (λ c κs. search needs)
     (λ c. search needs)
-    (λ c κs. search needs)
     (λ c. search needs)
     (λ c κs. search needs)
     (λ c. search needs)
-    (λ c. rw (c .before .before .answer .given .1) (c .plain .ensures))
-    (λ c. rw (c .before .answer2 .given .1))
-    (λ c. rw (c .before .enum-told .given .1) (c .plain2 .ensures))
-    (λ c. rw (c .before .before .answer3 .given .1) (c .plain3 .ensures))
-    (λ c. rw (c .before .enum-told2 .given .1) (c .plain4 .ensures))
-    (λ c. rw (c .before .before .answer4 .given .1) (c .plain5 .ensures))
-    (λ c. rw (c .before .answer5 .given .1)))
+    (λ c.
+    let c2 = c .before .before in
+    rw (c2 .answer .given .1) (c .plain .ensures))
+    (λ c.
+    let c1 = c .before in
+    rw (c1 .answer2 .given .1))
+    (λ c.
+    let c1 = c .before in
+    rw (c1 .enum-told .given .1) (c .plain2 .ensures))
+    (λ c.
+    let c2 = c .before .before in
+    rw (c2 .answer3 .given .1) (c .plain3 .ensures))
+    (λ c.
+    let c1 = c .before in
+    rw (c1 .answer4 .given .1))
+    (λ c.
+    let c2 = c .before .before in
+    rw (c2 .answer5 .given .1) (c .plain4 .ensures))
+    (λ c.
+    let c1 = c .before in
+    rw (c1 .answer6 .given .1)))
