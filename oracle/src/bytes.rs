@@ -36,6 +36,10 @@ impl<'a> Reader<'a> {
         self.take().map(u16::from_le_bytes)
     }
 
+    pub fn long(&mut self) -> Option<u32> {
+        self.take().map(u32::from_le_bytes)
+    }
+
     pub fn double(&mut self) -> Option<f64> {
         self.take().map(f64::from_le_bytes)
     }

@@ -252,19 +252,22 @@ pub fn put_image(out: &mut Vec<u8>, session: &Session) {
 }
 
 pub fn put_answer(out: &mut Vec<u8>, answer: &Answer) {
-    let (outcome, refusal, figure, right_hand_sides, jacobians) = match *answer {
-        Answer::Refused(number) => (0, number, 0.0, 0, 0),
-        Answer::Ask { time } => (1, 0, time, 0, 0),
-        Answer::Ready { norm, right_hand_sides, jacobians } => (2, 0, norm, right_hand_sides, jacobians),
-        Answer::Resting => (3, 0, 0.0, 0, 0),
-        Answer::FirstStep(step) => (4, 0, step, 0, 0),
-        Answer::Filled => (5, 0, 0.0, 0, 0),
-        Answer::Norm(norm) => (6, 0, norm, 0, 0),
+    let (outcome, refusal, figure, counts) = match *answer {
+        Answer::Refused(number) => (0, number, 0.0, [0; 3]),
+        Answer::Ask { time } => (1, 0, time, [0; 3]),
+        Answer::Ready { norm, right_hand_sides, jacobians, products } => {
+            (2, 0, norm, [right_hand_sides, jacobians, products])
+        }
+        Answer::Resting => (3, 0, 0.0, [0; 3]),
+        Answer::FirstStep(step) => (4, 0, step, [0; 3]),
+        Answer::Filled { terms, squarings } => (5, 0, 0.0, [terms, squarings, 0]),
+        Answer::Norm(norm) => (6, 0, norm, [0; 3]),
     };
     out.extend([outcome, refusal]);
     put_double(out, figure);
-    out.extend(right_hand_sides.to_le_bytes());
-    out.extend(jacobians.to_le_bytes());
+    for count in counts {
+        out.extend(count.to_le_bytes());
+    }
 }
 
 /// A call as bytes of a script.

@@ -1,6 +1,6 @@
 //! The fixed script: every op, every refusal number on the session and on what is handed in, the order of the
-//! checks, every scheme with a Jacobian supplied and differenced, the examples of document 01, tolerances that differ
-//! and old sessions. The list adds random calls to it, so that the gate replays them too.
+//! checks, every scheme with a Jacobian supplied and differenced and as stiff as can be, the examples of document 01,
+//! tolerances that differ and old sessions. The list adds random calls to it, so that the gate replays them too.
 
 use crate::bits::power_of_two;
 use crate::console::Call;
@@ -8,11 +8,11 @@ use crate::field::Field;
 use crate::lists::List;
 use crate::model::{Answer, Attempt, Matrix, Opening, PLACES, Session, Vector};
 use crate::old_session::OldSession;
-use crate::pass::{ETD2, QUESTIONS};
+use crate::pass::{ETD2, QUESTIONS, STIFFEST};
 use crate::random::Random;
 use crate::random_script::extended;
 use crate::refused::{self, Kind};
-use crate::script::Script;
+use crate::script::{PRODUCTS, Script};
 use crate::tolerances::alike;
 
 /// The random calls of the list, and their seed.
@@ -25,7 +25,9 @@ pub fn list() -> List {
     let mut script = extended(fixed, RANDOM_SEED, RANDOM_CALLS);
     // A call cut short ends the run.
     script.bytes.extend([crate::console::FIRST_STEP, 0, 0]);
-    let summary = format!("{own} fixed calls, {} random ones", script.tally.calls() - own);
+    let random = script.tally.calls() - own;
+    let products = script.tally.largest[PRODUCTS];
+    let summary = format!("{own} fixed calls, {random} random ones, up to {products} products");
     List { name: "console", input: script.bytes, output: script.replies, summary }
 }
 
@@ -41,6 +43,7 @@ pub fn fixed_script() -> Script {
             whole_run(&mut script, scheme, supplied, &mut random);
         }
     }
+    stiffest(&mut script);
     checks_on_the_session(&mut script);
     checks_on_what_is_handed_in(&mut script);
     bare_calls(&mut script, &mut random);
@@ -179,6 +182,21 @@ fn whole_run(script: &mut Script, scheme: usize, supplied: bool, random: &mut Ra
         }
     }
     script.call(&Call::Show);
+}
+
+/// Every scheme with the most squarings in its exponentials over the whole step, Etd2 with a history too.
+fn stiffest(script: &mut Script) {
+    for (scheme, questions) in QUESTIONS.into_iter().enumerate() {
+        script.call(&Call::Open(opening(scheme, 0.0, 1.0)));
+        script.call(&begin(1.0, STIFFEST));
+        for _ in 0..questions {
+            script.call(&supply(0.0));
+        }
+        script.call(&accept(0.0));
+        if scheme == ETD2 {
+            script.call(&begin(1.0, STIFFEST));
+        }
+    }
 }
 
 /// The calls that take a session, each with something wrong in what it hands in where it hands anything in, so

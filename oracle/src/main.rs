@@ -16,7 +16,8 @@ usage: oracle COMMAND
   console           reads a script of calls (docs/CONSOLE.md) and writes the replies, by the model of document 01
   script SEED       writes a random script of about 1000 calls
   compare PROGRAM SCRIPTS [SEED]
-                    runs so many random scripts, from that seed on, through PROGRAM and through the model";
+                    runs so many random scripts, from that seed on, through PROGRAM and through the model,
+                    and tells what they reach and the largest counts";
 
 fn main() {
     let arguments: Vec<String> = std::env::args().skip(1).collect();

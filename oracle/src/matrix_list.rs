@@ -1,6 +1,7 @@
 //! The list for the matrix exponential.
 //!
-//! A record is a size and the matrix row by row; its reply is 1 and the exponential, or 0 where document 01 refuses.
+//! A record is a size and the matrix row by row; its reply is 1, the terms, the squarings and the exponential, or 0 where
+//! document 01 refuses.
 
 use crate::bits::{above, power_of_two};
 use crate::bytes::put_doubles;
@@ -141,21 +142,27 @@ pub fn list() -> List {
     let mut output = Vec::new();
     let mut refused = 0;
     let mut not_finite = 0;
+    let (mut terms, mut squarings) = (0, 0);
     for Matrix { size, entries } in &matrices {
         input.push(*size as u8);
         put_doubles(&mut input, entries);
         if watch::admits(entries, *size) {
+            let watch = watch::start();
             let exponential = compared::matrix_exp(entries, *size);
-            output.push(1);
+            let noted = watch.only();
+            output.extend([1, noted.terms as u8, noted.squarings as u8]);
             put_doubles(&mut output, &exponential);
             not_finite += usize::from(!crate::pass::all_finite(&exponential));
+            terms = noted.terms.max(terms);
+            squarings = noted.squarings.max(squarings);
         } else {
             output.push(0);
             refused += 1;
         }
     }
     let summary = format!(
-        "{} matrices, {refused} refused, {not_finite} with entries that are not finite",
+        "{} matrices, {refused} refused, {not_finite} with entries that are not finite, \
+         up to {terms} terms and {squarings} squarings",
         matrices.len()
     );
     List { name: "matrix_run", input, output, summary }

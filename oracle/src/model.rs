@@ -5,7 +5,8 @@
 
 use crate::pass::{self, ETD2, Outcome, QUESTIONS, Start, all_finite};
 use crate::tolerances::Tolerances;
-use crate::{OdeProblem, SolveError, SolverStats, compared, watch};
+use crate::watch::{self, Exponential};
+use crate::{OdeProblem, SolveError, SolverStats, compared};
 use std::cell::{Cell, RefCell};
 
 /// The largest dimension.
@@ -49,11 +50,23 @@ pub struct Session {
 #[derive(Clone, Copy, Debug, PartialEq)]
 pub enum Answer {
     Refused(u8),
-    Ask { time: f64 },
-    Ready { norm: f64, right_hand_sides: u32, jacobians: u32 },
+    Ask {
+        time: f64,
+    },
+    /// The products are the matrix products of the pass: the terms and squarings of its exponentials.
+    Ready {
+        norm: f64,
+        right_hand_sides: u32,
+        jacobians: u32,
+        products: u32,
+    },
     Resting,
     FirstStep(f64),
-    Filled,
+    /// The terms and squarings of the exponential.
+    Filled {
+        terms: u32,
+        squarings: u32,
+    },
     Norm(f64),
 }
 
@@ -287,11 +300,15 @@ impl Session {
                 lent.copy_from_slice(&state);
                 (Answer::Ask { time }, next)
             }
-            Outcome::Candidate(pass) => {
+            Outcome::Candidate { pass, exponentials } => {
                 lent.copy_from_slice(&pass.candidate);
                 let n = next.n();
-                let norm = next.tolerances().error_norm(&pass.error, &next.state[..n], &pass.candidate);
-                let ready = Answer::Ready { norm, right_hand_sides: next.questions() as u32, jacobians: 1 };
+                let ready = Answer::Ready {
+                    norm: next.tolerances().error_norm(&pass.error, &next.state[..n], &pass.candidate),
+                    right_hand_sides: next.questions() as u32,
+                    jacobians: 1,
+                    products: watch::products(&exponentials),
+                };
                 (ready, next)
             }
         }
@@ -372,7 +389,7 @@ impl Session {
         if on_handed_in != 0 {
             return (Answer::Refused(on_handed_in), self);
         }
-        let Outcome::Candidate(pass) = self.progress() else {
+        let Outcome::Candidate { pass, .. } = self.progress() else {
             return (Answer::Refused(6), self);
         };
         let time = self.time + self.step;
@@ -423,8 +440,9 @@ pub fn bare_exponential(size: u8, entries: &[f64], lent: &mut [f64]) -> Answer {
     if refusal != 0 {
         return Answer::Refused(refusal);
     }
+    let watch = watch::start();
     lent.copy_from_slice(&compared::matrix_exp(entries, size));
-    Answer::Filled
+    filled(watch.only())
 }
 
 pub fn bare_phi_action(
@@ -444,13 +462,17 @@ pub fn bare_phi_action(
     if refusal != 0 {
         return Answer::Refused(refusal);
     }
-    watch::start();
+    let watch = watch::start();
     let action = compared::phi_action(matrix, scale_a, usize::from(order), input);
-    if !watch::all_admitted() {
+    if !watch.all_admitted() {
         return Answer::Refused(6);
     }
     lent.copy_from_slice(&action);
-    Answer::Filled
+    filled(watch.only())
+}
+
+fn filled(exponential: Exponential) -> Answer {
+    Answer::Filled { terms: exponential.terms, squarings: exponential.squarings }
 }
 
 pub fn bare_error_norm(

@@ -1,6 +1,8 @@
 //! One pass of a scheme as far as the answers go, by the compared copy, with document 01's refusals by 6.
 
-use crate::{OdeProblem, SolveError, SolverStats, compared, watch};
+use crate::exact::LARGEST_NORM;
+use crate::watch::{self, Exponential};
+use crate::{OdeProblem, SolveError, SolverStats, compared};
 use std::cell::{Cell, RefCell};
 
 /// Right-hand sides per pass, by scheme.
@@ -11,6 +13,10 @@ pub const ETD2: usize = 13;
 
 /// Exprb32 and Exprb43, the schemes with an error of their own.
 pub const ESTIMATING: [usize; 2] = [14, 15];
+
+/// With this J, u = 0, f0 = 1, h = 1 and answers 0 every scheme ends, after 32 squarings in every exponential over the
+/// whole step.
+pub const STIFFEST: f64 = 4096.0 - LARGEST_NORM;
 
 /// What a pass starts from.
 #[derive(Clone, Debug)]
@@ -33,7 +39,11 @@ pub enum Outcome {
         time: f64,
         state: Vec<f64>,
     },
-    Candidate(compared::Pass),
+    Candidate {
+        pass: compared::Pass,
+        /// Those of the whole pass, repeats too.
+        exponentials: Vec<Exponential>,
+    },
 }
 
 pub fn all_finite(values: &[f64]) -> bool {
@@ -47,11 +57,11 @@ pub fn run(start: &Start, answers: &[Vec<f64>]) -> Outcome {
     if !all_finite(&au) || !all_finite(&nonlinear) {
         return Outcome::Refused;
     }
-    watch::start();
+    let watch = watch::start();
     let turn = Cell::new(0);
     let question = RefCell::new(None);
     let rhs = |derivative: &mut [f64], state: &[f64], _: &(), time: f64| {
-        if !watch::all_admitted() || !all_finite(state) || !time.is_finite() {
+        if !watch.all_admitted() || !all_finite(state) || !time.is_finite() {
             return Err(SolveError::Unanswered);
         }
         match answers.get(turn.replace(turn.get() + 1)) {
@@ -80,7 +90,9 @@ pub fn run(start: &Start, answers: &[Vec<f64>]) -> Outcome {
         return Outcome::Ask { time, state };
     }
     match result {
-        Ok(pass) if watch::all_admitted() && all_finite(&pass.error) => Outcome::Candidate(pass),
+        Ok(pass) if watch.all_admitted() && all_finite(&pass.error) => {
+            Outcome::Candidate { pass, exponentials: watch.exponentials() }
+        }
         _ => Outcome::Refused,
     }
 }

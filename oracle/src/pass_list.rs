@@ -1,14 +1,16 @@
 //! The list for the schemes.
 //!
-//! A record is a pass and the answers so far; its reply is the question, the candidate, or the refusal by 6.
+//! A record is a pass and the answers so far; its reply is the question, the candidate with the exponentials and matrix
+//! products that it took, or the refusal by 6.
 
 use crate::bits::power_of_two;
 use crate::bytes::{put_double, put_doubles};
 use crate::field::Field;
 use crate::lists::List;
-use crate::pass::{self, ETD2, Outcome, QUESTIONS, Start};
+use crate::pass::{self, ETD2, Outcome, QUESTIONS, STIFFEST, Start};
 use crate::random::Random;
 use crate::refused;
+use crate::watch::products;
 
 /// A pass with all the answers it may be given.
 struct Run {
@@ -123,6 +125,16 @@ fn above_8(scheme: usize) -> Run {
     run
 }
 
+/// The most squarings in every exponential over the whole step.
+fn stiffest(scheme: usize, history: Option<f64>) -> Run {
+    let mut run = example(scheme, 1.0, 1.0, history);
+    run.start.state = vec![0.0];
+    run.start.f0 = vec![1.0];
+    run.start.jacobian = vec![STIFFEST];
+    run.answers.fill(vec![0.0]);
+    run
+}
+
 /// Runs whose every number of answers is listed.
 fn in_full(scheme: usize, random: &mut Random) -> Vec<Run> {
     let mut runs = Vec::new();
@@ -136,8 +148,10 @@ fn in_full(scheme: usize, random: &mut Random) -> Vec<Run> {
     runs.push(smooth(scheme, 16, 2000.0, 0.03, random));
     runs.push(example(scheme, 1.0, 1.0, None));
     runs.push(above_8(scheme));
+    runs.push(stiffest(scheme, None));
     if scheme == ETD2 {
         runs.push(example(scheme, 1.0, 1.0, Some(1.0)));
+        runs.push(stiffest(scheme, Some(1.0)));
     }
     runs
 }
@@ -197,9 +211,11 @@ fn put_reply(out: &mut Vec<u8>, outcome: &Outcome) {
             put_double(out, *time);
             put_doubles(out, state);
         }
-        Outcome::Candidate(pass) => {
+        Outcome::Candidate { pass, exponentials } => {
             let n = pass.candidate.len();
             out.push(2);
+            out.extend((exponentials.len() as u32).to_le_bytes());
+            out.extend(products(exponentials).to_le_bytes());
             put_doubles(out, &pass.candidate);
             out.push(u8::from(!pass.error.is_empty()));
             let mut error = pass.error.clone();
@@ -215,6 +231,7 @@ pub fn list() -> List {
     let mut input = Vec::new();
     let mut output = Vec::new();
     let mut counts = [[0usize; 3]; 16];
+    let mut most = 0;
     for (scheme, count) in counts.iter_mut().enumerate() {
         let mut add = |run: &Run, given: usize| {
             let answers = &run.answers[..given];
@@ -224,7 +241,10 @@ pub fn list() -> List {
             let kind = match outcome {
                 Outcome::Refused => 0,
                 Outcome::Ask { .. } => 1,
-                Outcome::Candidate(_) => 2,
+                Outcome::Candidate { exponentials, .. } => {
+                    most = products(&exponentials).max(most);
+                    2
+                }
             };
             count[kind] += 1;
         };
@@ -250,6 +270,11 @@ pub fn list() -> List {
         name: "methods_run",
         input,
         output,
-        summary: format!("{} refused, {} asks, {} candidates", total(0), total(1), total(2)),
+        summary: format!(
+            "{} refused, {} asks, {} candidates, up to {most} products",
+            total(0),
+            total(1),
+            total(2)
+        ),
     }
 }

@@ -11,6 +11,10 @@ use std::collections::BTreeMap;
 /// Counts under a heading each.
 type Counts = BTreeMap<(&'static str, String), usize>;
 
+pub const PRODUCTS: &str = "products of a ready";
+pub const TERMS: &str = "terms of a filled";
+pub const SQUARINGS: &str = "squarings of a filled";
+
 /// How often each outcome of each op was told.
 #[derive(Clone, Debug, Default, Eq, PartialEq)]
 pub struct Tally {
@@ -23,6 +27,8 @@ pub struct Tally {
     pub dimensions: BTreeMap<u8, usize>,
     /// What else the scripts hold, by name.
     pub kinds: BTreeMap<&'static str, usize>,
+    /// The largest of each count that was told.
+    pub largest: BTreeMap<&'static str, u32>,
 }
 
 fn add<K: Clone + Ord>(to: &mut BTreeMap<K, usize>, from: &BTreeMap<K, usize>) {
@@ -51,6 +57,14 @@ impl Tally {
         add(&mut self.ready, &other.ready);
         add(&mut self.dimensions, &other.dimensions);
         add(&mut self.kinds, &other.kinds);
+        for (count, number) in &other.largest {
+            self.reach(count, *number);
+        }
+    }
+
+    fn reach(&mut self, count: &'static str, number: u32) {
+        let largest = self.largest.entry(count).or_default();
+        *largest = number.max(*largest);
     }
 
     pub fn note(&mut self, kind: &'static str) {
@@ -78,6 +92,9 @@ impl Tally {
             least(&schemes),
             least(&dimensions)
         );
+        for (count, number) in &self.largest {
+            text += &format!("  most {count}: {number}\n");
+        }
         for (kind, count) in &self.kinds {
             text += &format!("  {kind}: {count}\n");
         }
@@ -116,11 +133,16 @@ impl Script {
         self.note_tolerances(call, &before, told.answer);
         self.note_bringing_over(call, told.answer);
         match told.answer {
-            Some(Answer::Ready { .. }) => {
+            Some(Answer::Ready { products, .. }) => {
+                self.tally.reach(PRODUCTS, products);
                 let session = &self.console.session;
                 let supplied = session.attempt == Attempt::Supplied;
                 *self.tally.ready.entry((session.scheme, supplied)).or_default() += 1;
                 *self.tally.dimensions.entry(session.n).or_default() += 1;
+            }
+            Some(Answer::Filled { terms, squarings }) => {
+                self.tally.reach(TERMS, terms);
+                self.tally.reach(SQUARINGS, squarings);
             }
             Some(Answer::Refused(number @ 1..=5)) if takes_a_session(call) => {
                 // Drop tests the session alone.
@@ -255,7 +277,7 @@ fn outcome(answer: Option<Answer>) -> String {
         Some(Answer::Ready { .. }) => "ready".into(),
         Some(Answer::Resting) => "resting".into(),
         Some(Answer::FirstStep(_)) => "first step".into(),
-        Some(Answer::Filled) => "filled".into(),
+        Some(Answer::Filled { .. }) => "filled".into(),
         Some(Answer::Norm(_)) => "norm".into(),
     }
 }

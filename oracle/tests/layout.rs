@@ -112,14 +112,31 @@ fn a_reply_has_the_outcomes_number() {
     for (name, answer) in [
         ("REFUSED", Answer::Refused(7)),
         ("ASK", Answer::Ask { time: 1.0 }),
-        ("READY", Answer::Ready { norm: 1.0, right_hand_sides: 2, jacobians: 1 }),
+        ("READY", Answer::Ready { norm: 1.0, right_hand_sides: 2, jacobians: 1, products: 3 }),
         ("RESTING", Answer::Resting),
         ("FIRST_STEP", Answer::FirstStep(1.0)),
-        ("FILLED", Answer::Filled),
+        ("FILLED", Answer::Filled { terms: 1, squarings: 2 }),
         ("NORM", Answer::Norm(1.0)),
     ] {
         let mut reply = Vec::new();
         put_answer(&mut reply, &answer);
         assert_eq!(usize::from(reply[0]), constant(name), "{name}");
+    }
+}
+
+#[test]
+fn a_reply_has_three_counts() {
+    let counts = |answer: Answer| {
+        let mut reply = Vec::new();
+        put_answer(&mut reply, &answer);
+        assert_eq!(reply.len(), 22);
+        [10, 14, 18].map(|at| u32::from_le_bytes(reply[at..at + 4].try_into().unwrap()))
+    };
+    let ready = Answer::Ready { norm: 1.0, right_hand_sides: 20, jacobians: 1, products: 1598 };
+    assert_eq!(counts(ready), [20, 1, 1598]);
+    assert_eq!(counts(Answer::Filled { terms: 15, squarings: 32 }), [15, 32, 0]);
+    let others = [Answer::Refused(6), Answer::Ask { time: 1.0 }, Answer::Resting];
+    for answer in others.into_iter().chain([Answer::FirstStep(1.0), Answer::Norm(1.0)]) {
+        assert_eq!(counts(answer), [0; 3], "{answer:?}");
     }
 }

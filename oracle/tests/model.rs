@@ -11,9 +11,9 @@ use oracle::pass::ETD2;
 use oracle::random::Random;
 use oracle::random_script::{damaged, random_script};
 use oracle::refused::{self, Kind};
-use oracle::script::{Script, Tally};
+use oracle::script::{PRODUCTS, SQUARINGS, Script, TERMS, Tally};
 use oracle::tolerances::alike;
-use oracle::{OdeProblem, SolveOptions, SolverStats, published};
+use oracle::{OdeProblem, SolveOptions, SolverStats, compared, published, watch};
 
 fn vector(values: &[f64]) -> Vector {
     let mut vector = [0.0; PLACES];
@@ -32,7 +32,7 @@ fn calls_of(script: &[u8]) -> Vec<Call> {
     std::iter::from_fn(|| read_call(&mut reader)).collect()
 }
 
-/// Three steps of the published kernel and of the model, a right-hand side between them.
+/// Three steps of the published kernel, of the compared one, whose exponentials are noted, and of the model.
 fn beside_the_kernel(scheme: usize, n: usize, supplied: bool, random: &mut Random) {
     let field = Field::new(n, 2.0, random);
     let mut state: Vec<f64> = (0..n).map(|_| random.unit()).collect();
@@ -47,8 +47,10 @@ fn beside_the_kernel(scheme: usize, n: usize, supplied: bool, random: &mut Rando
         if supplied { OdeProblem::with_jacobian(rhs, jacobian.clone()) } else { OdeProblem::new(rhs) };
     let options = SolveOptions::tolerances(relative, absolute);
     let mut kernel = published::kernel(n, scheme);
+    let mut noted_kernel = compared::kernel(n, scheme);
     let mut stats = SolverStats::default();
     kernel.initialize(&problem, &state, time, &mut stats).unwrap();
+    noted_kernel.initialize(&problem, &state, time, &mut stats).unwrap();
 
     let (answer, mut session) = Session::open(&Opening {
         scheme: scheme as u8,
@@ -68,6 +70,13 @@ fn beside_the_kernel(scheme: usize, n: usize, supplied: bool, random: &mut Rando
         let norm = kernel
             .attempt_step(&problem, &state, time, step, &mut candidate, &options, &mut counted)
             .unwrap();
+        let mut noted_candidate = vec![0.0; n];
+        let watch = watch::start();
+        noted_kernel
+            .attempt_step(&problem, &state, time, step, &mut noted_candidate, &options, &mut stats)
+            .unwrap();
+        let products = watch::products(&watch.exponentials());
+        assert!(same(&noted_candidate, &candidate));
 
         let mut handed = [0.0; PLACES * PLACES];
         if supplied {
@@ -83,12 +92,14 @@ fn beside_the_kernel(scheme: usize, n: usize, supplied: bool, random: &mut Rando
             norm,
             right_hand_sides: counted.rhs_evaluations as u32,
             jacobians: counted.jacobian_evaluations as u32,
+            products,
         };
         assert_eq!(told.0, ready);
         assert!(same(&lent, &candidate));
 
         time += step;
         kernel.accept_step(&problem, &candidate, time, &mut stats).unwrap();
+        noted_kernel.accept_step(&problem, &candidate, time, &mut stats).unwrap();
         let (answer, next) = told.1.accept(&vector(&field.at(time, &candidate)));
         assert_eq!(answer, Answer::Resting);
         assert!(same(&next.state[..n], &candidate) && next.time == time);
@@ -175,6 +186,8 @@ fn the_fixed_script_covers_every_op_and_refusal() {
     }
     every_kind_of_tolerance_was_seen(&script.tally, 1);
     every_kind_of_old_session_was_seen(&script.tally, &[1, 2, 3, 4, 5], 1);
+    let largest = |count: &str| script.tally.largest[count];
+    assert_eq!((largest(PRODUCTS), largest(TERMS), largest(SQUARINGS)), (1583, 15, 32));
     for scheme in 0..16 {
         for supplied in [true, false] {
             assert!(script.tally.ready.contains_key(&(scheme, supplied)));
@@ -245,6 +258,9 @@ fn the_random_scripts_cover_what_a_host_can_do() {
         }
     }
     seen_often(&tally, OLD, "accepted in the attempt they came with", 50);
+    let largest = |count: &str| tally.largest[count];
+    assert_eq!((largest(TERMS), largest(SQUARINGS)), (15, 32));
+    assert!((1200..=1598).contains(&largest(PRODUCTS)), "{}", largest(PRODUCTS));
 }
 
 const OLD: &str = "sessions brought over";
@@ -336,6 +352,22 @@ fn open(scheme: u8, time: f64, state: f64, derivative: f64) -> Session {
     });
     assert_eq!(answer, Answer::Resting);
     session
+}
+
+/// J = [0]: the matrix [0 2; 0 0] takes two terms and two squarings, [0 1; 0 0] a squaring less, and [0] a term alone.
+/// LawsonEuler exponentiates the last, Etd2 the last and the first.
+#[test]
+fn an_attempt_tells_its_products() {
+    let products =
+        |scheme: u8, step: f64, f0: f64| match begin(&open(scheme, 0.0, 1.0, f0), true, step, &[0.0], 1).0 {
+            Answer::Ready { products, .. } => products,
+            answer => panic!("{answer:?}"),
+        };
+    assert_eq!(products(1, 1.0, 2.0), 4);
+    assert_eq!(products(1, 0.5, 2.0), 4);
+    assert_eq!(products(1, 1.0, 1.0), 3);
+    assert_eq!(products(0, 1.0, 2.0), 1);
+    assert_eq!(products(ETD2 as u8, 1.0, 2.0), 5);
 }
 
 fn begin(session: &Session, supplied: bool, step: f64, entries: &[f64], lent: usize) -> (Answer, Session) {
@@ -442,13 +474,15 @@ fn a_differenced_column_is_tested_when_its_own_answer_is_in() {
 fn a_row_sum_of_2_to_the_31_is_admitted_and_the_next_double_is_not() {
     let largest = oracle::bits::power_of_two(31);
     let exponential = |entry: f64| bare_exponential(1, &[entry], &mut [BEFORE]);
-    assert_eq!(exponential(largest), Answer::Filled);
-    assert_eq!(exponential(-largest), Answer::Filled);
+    let furthest = Answer::Filled { terms: 15, squarings: 32 };
+    assert_eq!(exponential(largest), furthest);
+    assert_eq!(exponential(-largest), furthest);
     assert_eq!(exponential(largest.next_up()), Answer::Refused(6));
     let phi = |input: f64| bare_phi_action(1, 1, 1.0, &[-0.5 * largest], &[input], &mut [BEFORE]);
-    assert_eq!(phi(0.5 * largest), Answer::Filled);
+    let furthest = Answer::Filled { terms: 12, squarings: 32 };
+    assert_eq!(phi(0.5 * largest), furthest);
     // The sum of the next double rounds to 2^31, that of the one after it does not.
-    assert_eq!(phi((0.5 * largest).next_up()), Answer::Filled);
+    assert_eq!(phi((0.5 * largest).next_up()), furthest);
     assert_eq!(phi((0.5 * largest).next_up().next_up()), Answer::Refused(6));
 }
 
@@ -491,7 +525,10 @@ fn every_node_of_a_forged_session_is_tested_again() {
     let supply = |session: &Session| session.clone().supply(&vector(&[0.0]), &mut [BEFORE]).0;
     assert_eq!(supply(&session), Answer::Refused(6));
     session.time = 0.0;
-    assert_eq!(supply(&session), Answer::Ready { norm: 0.0, right_hand_sides: 4, jacobians: 1 });
+    // Its 5 phi_1, 18 phi_2 and 11 phi_3 of zeros have no, one and two ones above the diagonal: 1, 2 and 3 terms, and a
+    // squaring where there is a one.
+    let products = 5 + 18 * 3 + 11 * 4;
+    assert_eq!(supply(&session), Answer::Ready { norm: 0.0, right_hand_sides: 4, jacobians: 1, products });
     // Etdrk2 past an exponential that is refused, its candidate finite.
     let mut session = open(2, 0.0, 1.0, 1.0);
     session.attempt = Attempt::Supplied;
@@ -641,7 +678,7 @@ fn a_script_ends_where_the_page_says() {
     let mut good = Vec::new();
     put_call(&mut good, &Call::Drop);
     let reply = console::run(&good);
-    assert_eq!(reply.len(), 18);
+    assert_eq!(reply.len(), 22);
     let too_many = [&[6, 1, 1, 2, 1, 0][..], &[0; 513 * 8]].concat();
     let too_long = [&[2][..], &[0; PLACES * 8], &[1, 2]].concat();
     let ends: [&[u8]; 5] = [&[BRING_OVER + 1], &[255], &[5, 0, 0], &too_many, &too_long];

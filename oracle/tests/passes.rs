@@ -60,7 +60,7 @@ fn the_two_copies_agree_along_a_smooth_field() {
                 assert!(same(&[time], &[*at]) && same(&state, question));
                 answers.push(field.at(time, &state));
             }
-            let Outcome::Candidate(ours) = pass::run(&start, &answers) else {
+            let Outcome::Candidate { pass: ours, .. } = pass::run(&start, &answers) else {
                 panic!("{} has no candidate", published::name(scheme));
             };
             assert!(same(&ours.candidate, &theirs.candidate));
@@ -81,7 +81,7 @@ fn candidate(scheme: usize, step: f64, sign: f64, history: Option<f64>) -> f64 {
         history: history.map(|x| vec![x]),
     };
     match pass::run(&start, &[]) {
-        Outcome::Candidate(pass) => pass.candidate[0],
+        Outcome::Candidate { pass, .. } => pass.candidate[0],
         other => panic!("{other:?}"),
     }
 }
