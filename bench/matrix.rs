@@ -24,7 +24,7 @@ extern "C" {
 
 // Whether the port filled out with the exponential of m (outcome 5).
 fn exponential(m: &[f64], out: &mut [f64], n: usize) -> bool {
-    let mut words = [0u64; 4];
+    let mut words = [0u64; 5];
     let mut told = [0.0];
     // SAFETY: each pointer and length is that of an array or slice that is lent for the call; no two overlap.
     let code = unsafe {

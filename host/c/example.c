@@ -1,5 +1,5 @@
 /* A stiff pair, u0' = -1000 (u0 - cos t) and u1' = u0 - u1, each with a tolerance of its own, stepped by Exprb32 from t = 0 to 0.1; then a NaN
- * answer, a huge word and a wrong length; then the session saved and restored. */
+ * answer, a huge word and a wrong length; then the session saved and restored; then what is counted. */
 #include <math.h>
 #include <stdio.h>
 #include <stdlib.h>
@@ -11,6 +11,7 @@ enum { N = 2 };
 
 static vunchrem_session s;
 static vunchrem_reply r;
+static uint64_t products;
 static const double absolute[VUNCHREM_VECTOR] = {1e-9, 1e-6}, none[VUNCHREM_MATRIX];
 static unsigned char saved[VUNCHREM_BYTES], again[VUNCHREM_BYTES], old[VUNCHREM_OLD_BYTES];
 
@@ -30,7 +31,14 @@ static void f(double t, const double *u, double du[16]) {
     du[1] = u[0] - u[1];
 }
 
-/* One step: begin with a differenced Jacobian, answer every question, accept. Returns 0, or the refusal's number with the attempt dropped. */
+/* Whether the three counts of the last call are these. */
+static int counts(uint64_t first, uint64_t second, uint64_t third) {
+    const uint64_t *k = r.words + VUNCHREM_COUNTS_AT;
+    return k[0] == first && k[1] == second && k[2] == third;
+}
+
+/* One step: begin with a differenced Jacobian, answer every question, accept. Returns 0, or the refusal's number with the attempt dropped. The
+ * products of the step are left in products. */
 static int step(double h) {
     double u[N], du[16];
     vunchrem_begin(SESSION, h, 0, none, VUNCHREM_MATRIX, u, N, REPLY);
@@ -41,6 +49,7 @@ static int step(double h) {
         vunchrem_supply(SESSION, du, 16, u, N, REPLY);
     }
     if (r.words[VUNCHREM_OUTCOME_AT] == VUNCHREM_READY) {
+        products = r.words[VUNCHREM_READY_PRODUCTS_AT];
         f(s.figures[VUNCHREM_TIME_AT] + h, u, du);
         vunchrem_accept(SESSION, du, 16, REPLY);
     }
@@ -101,8 +110,44 @@ static void saving(void) {
     s = end;
 }
 
+static void counting(void) {
+    static const double x[3] = {0.5, 1.0, -2147483648.0}, tolerance[16] = {1e-9}, u[16] = {1.0}, du[16] = {-64.0}, rate[VUNCHREM_MATRIX] = {-64.0};
+    static const uint64_t squarings[3] = {0, 1, 32};
+    double e[1], v[1];
+    uint64_t terms;
+    int k;
+
+    for (k = 0; k < 3; k++) {
+        vunchrem_exponential(1, &x[k], 1, e, 1, REPLY);
+        printf("exp(%g) = %.17g\n", x[k], e[0]);
+        check("bare exponential", r.words[VUNCHREM_OUTCOME_AT] == VUNCHREM_FILLED && fabs(e[0] - exp(x[k])) < 1e-14);
+        check("its terms", r.words[VUNCHREM_FILLED_TERMS_AT] == 15);
+        check("and its squarings", r.words[VUNCHREM_FILLED_SQUARINGS_AT] == squarings[k] && counts(15, squarings[k], 0));
+    }
+    vunchrem_exponential(1, none, 1, e, 1, REPLY);
+    check("the series of 0 stops at its first term", e[0] == 1.0 && counts(1, 0, 0));
+
+    /* u' = -64 u by NorsettEuler, whose step is one phi action. The row -32 -64 is halved eight times. */
+    vunchrem_phi_action(1, 1, 0.5, rate, 1, du, 1, v, 1, REPLY);
+    terms = r.words[VUNCHREM_FILLED_TERMS_AT];
+    check("the terms and squarings of a phi action", terms >= 1 && terms <= 15 && counts(terms, 8, 0));
+    vunchrem_open(VUNCHREM_NORSETT_EULER, 1, 0, 0.0, 1e-6, tolerance, 16, u, 16, du, 16, none, 16, SESSION, REPLY);
+    check("open has no counts", r.words[VUNCHREM_OUTCOME_AT] == VUNCHREM_RESTING && counts(0, 0, 0));
+    vunchrem_begin(SESSION, 0.5, 1, rate, VUNCHREM_MATRIX, e, 1, REPLY);
+    check("a step by one phi action", r.words[VUNCHREM_OUTCOME_AT] == VUNCHREM_READY && e[0] == 1.0 + 0.5 * v[0]);
+    check("asks nothing, with one Jacobian", r.words[VUNCHREM_READY_RHS_AT] == 0 && r.words[VUNCHREM_READY_JACOBIANS_AT] == 1);
+    check("and has the products of that", r.words[VUNCHREM_READY_PRODUCTS_AT] == terms + 8 && counts(0, 1, terms + 8));
+    vunchrem_drop(SESSION, REPLY);
+    check("drop has no counts", r.words[VUNCHREM_OUTCOME_AT] == VUNCHREM_RESTING && counts(0, 0, 0));
+    vunchrem_begin(SESSION, 0.5, 0, none, VUNCHREM_MATRIX, e, 1, REPLY);
+    check("a question has none", r.words[VUNCHREM_OUTCOME_AT] == VUNCHREM_ASK && counts(0, 0, 0));
+    memset(r.words, 0xff, sizeof r.words);
+    vunchrem_begin(SESSION, 0.5, 0, none, VUNCHREM_MATRIX, e, 1, REPLY);
+    check("a refusal has none", r.words[VUNCHREM_OUTCOME_AT] == VUNCHREM_REFUSED && counts(0, 0, 0));
+}
+
 int main(void) {
-    double u[16] = {0.0}, du[16], out[N] = {-1.5, -1.5}, e[1], one[1] = {1.0}, bad[16] = {0.0};
+    double u[16] = {0.0}, du[16], out[N] = {-1.5, -1.5}, bad[16] = {0.0};
     vunchrem_session kept;
     int k = 0;
 
@@ -113,6 +158,8 @@ int main(void) {
         k++;
     printf("u0(%g) = %.9f, cos = %.9f\n", s.figures[VUNCHREM_TIME_AT], s.figures[VUNCHREM_STATE_AT], cos(s.figures[VUNCHREM_TIME_AT]));
     check("ten steps", k == 10 && fabs(s.figures[VUNCHREM_STATE_AT] - cos(0.1)) < 1e-2);
+    printf("%d matrix products in the last\n", (int)products);
+    check("of three exponentials, at most 47 products each", products >= 3 && products <= 3 * 47);
 
     kept = s;
     check("step 0 is refused by 5", step(0.0) == VUNCHREM_STEP && same(&kept));
@@ -137,8 +184,6 @@ int main(void) {
     check("a scheme that no byte holds is refused by 2", (s.numbers[VUNCHREM_SCHEME_AT] = 256 + 14, vunchrem_drop(SESSION, REPLY) == 0) &&
           r.words[VUNCHREM_REFUSAL_AT] == VUNCHREM_SCHEME && s.numbers[VUNCHREM_SCHEME_AT] == 256 + 14);
 
-    vunchrem_exponential(1, one, 1, e, 1, REPLY);
-    printf("exp(1) = %.17g\n", e[0]);
-    check("bare exponential", r.words[VUNCHREM_OUTCOME_AT] == VUNCHREM_FILLED && fabs(e[0] - exp(1.0)) < 1e-14);
+    counting();
     return 0;
 }

@@ -30,8 +30,8 @@ int main(void) {
     SAY(OLD_BYTES);
     SAY(OUTCOME_AT);
     SAY(REFUSAL_AT);
-    SAY(RHS_AT);
-    SAY(JACOBIANS_AT);
+    SAY(COUNTS_AT);
+    SAY(COUNTS);
     SAY(WORDS);
     SAY(REFUSED);
     SAY(ASK);

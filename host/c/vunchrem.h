@@ -4,7 +4,7 @@
  * nothing of the numbers. A slice is a pointer and a length; the pointer is not NULL, and no two slices of one call overlap.
  *
  * Each function returns 0 where the call was made, and 1 where a length is another than its own; then nothing is touched. What the call tells
- * stands in words[4] and told[1], see vunchrem_reply. A call works on the session where it stands; a refused one leaves it, and the output that it
+ * stands in words[5] and told[1], see vunchrem_reply. A call works on the session where it stands; a refused one leaves it, and the output that it
  * was lent, as they were. A refused open overwrites the session that it was handed, by one that any call refuses by 1. */
 #ifndef VUNCHREM_H
 #define VUNCHREM_H
@@ -78,9 +78,18 @@ enum vunchrem_refusal {
 /* Where each word of a reply stands, and how many there are. */
 #define VUNCHREM_OUTCOME_AT 0
 #define VUNCHREM_REFUSAL_AT (VUNCHREM_OUTCOME_AT + 1)
-#define VUNCHREM_RHS_AT (VUNCHREM_REFUSAL_AT + 1)
-#define VUNCHREM_JACOBIANS_AT (VUNCHREM_RHS_AT + 1)
-#define VUNCHREM_WORDS (VUNCHREM_JACOBIANS_AT + 1)
+#define VUNCHREM_COUNTS_AT (VUNCHREM_REFUSAL_AT + 1)
+#define VUNCHREM_COUNTS 3
+#define VUNCHREM_WORDS (VUNCHREM_COUNTS_AT + VUNCHREM_COUNTS)
+
+/* Which of the counts is which. Of Ready: the right-hand sides that the attempt asked for; the Jacobians, 1; the matrix products, which are the terms
+ * and squarings of every exponential that the published Rust makes in the pass, repeats counted, at most 1598. Of Filled: the terms of the series, 1 to
+ * 15, and the squarings, 0 to 32, one more for each doubling of the matrix; the third is 0. With every other outcome all three are 0. */
+#define VUNCHREM_READY_RHS_AT VUNCHREM_COUNTS_AT
+#define VUNCHREM_READY_JACOBIANS_AT (VUNCHREM_COUNTS_AT + 1)
+#define VUNCHREM_READY_PRODUCTS_AT (VUNCHREM_COUNTS_AT + 2)
+#define VUNCHREM_FILLED_TERMS_AT VUNCHREM_COUNTS_AT
+#define VUNCHREM_FILLED_SQUARINGS_AT (VUNCHREM_COUNTS_AT + 1)
 
 /* A session: scheme, n, history (0 none, 1 held), attempt (0 none, 1 Jacobian supplied, 2 differenced), count of answers; and time, step,
  * relative tolerance, absolute tolerances 16, state 16, derivative 16, history 16, Jacobian 256, answers 320. Entries past n and places not in
@@ -90,8 +99,8 @@ typedef struct {
     double figures[VUNCHREM_FIGURES];
 } vunchrem_session;
 
-/* What a call tells: outcome, refusal, right-hand sides and Jacobians (Ready's, else 0); and Ask's time, Ready's error norm, the first step or
- * the norm, else +0.0. */
+/* What a call tells: outcome, refusal and three counts (Ready's or Filled's, else 0); and Ask's time, Ready's error norm, the first step or the
+ * norm, else +0.0. */
 typedef struct {
     uint64_t words[VUNCHREM_WORDS];
     double told[1];
@@ -128,11 +137,11 @@ uint32_t vunchrem_drop(uint64_t *numbers, size_t numbers_len, double *figures, s
 uint32_t vunchrem_first_step(const uint64_t *numbers, size_t numbers_len, const double *figures, size_t figures_len, double largest,
                              uint64_t *words, size_t words_len, double *told, size_t told_len);
 
-/* The exponential of a matrix of size 1 to 20, row by row; m and out have size * size places. */
+/* The exponential of a matrix of size 1 to 20, row by row; m and out have size * size places. Its counts say how far it went. */
 uint32_t vunchrem_exponential(uint64_t size, const double *m, size_t m_len, double *out, size_t out_len,
                               uint64_t *words, size_t words_len, double *told, size_t told_len);
 
-/* The phi function of order 1 to 4 of scale_a times the matrix a, on n numbers. */
+/* The phi function of order 1 to 4 of scale_a times the matrix a, on n numbers. Its counts are those of its exponential, of size n + order. */
 uint32_t vunchrem_phi_action(uint64_t n, uint64_t order, double scale_a, const double *a, size_t a_len,
                              const double *input, size_t input_len, double *out, size_t out_len,
                              uint64_t *words, size_t words_len, double *told, size_t told_len);

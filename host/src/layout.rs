@@ -39,12 +39,12 @@ constants! {
     // bytes of a saved session: one for each number, eight for each figure
     BYTES = NUMBERS + 8 * FIGURES;
     OLD_BYTES = NUMBERS + 8 * OLD_FIGURES;
-    // among the words of a reply
+    // among the words of a reply; its counts mean something else with each outcome
     OUTCOME_AT = 0;
     REFUSAL_AT = OUTCOME_AT + 1;
-    RHS_AT = REFUSAL_AT + 1;
-    JACOBIANS_AT = RHS_AT + 1;
-    WORDS = JACOBIANS_AT + 1;
+    COUNTS_AT = REFUSAL_AT + 1;
+    COUNTS = 3;
+    WORDS = COUNTS_AT + COUNTS;
     // the outcomes
     REFUSED = 0;
     ASK = 1;

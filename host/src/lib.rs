@@ -8,6 +8,8 @@
 //! The absolute tolerance is one for all components or one for each ([`Tolerance`]). A session is saved as bytes by [`Session::save`] and
 //! brought back by [`Session::restore`].
 //!
+//! A step tells its matrix products ([`Stepped::products`]), an exponential its terms and squarings ([`Reach`]): in them stiffness shows.
+//!
 //! Every call ends, whatever numbers it got. A refused one gives a [`Refusal`] and leaves the session as it was, bit for bit.
 //!
 //! ```
@@ -199,12 +201,28 @@ pub enum Progress {
         right_hand_sides: u32,
         /// Jacobians that the attempt used: 1.
         jacobians: u32,
+        /// Matrix products of the pass, see [`Stepped::products`].
+        products: u32,
         /// The state at time + step, n entries.
         candidate: Vec<f64>,
     },
 }
 
 /// What a whole step came to.
+///
+/// ```
+/// use vunchrem::{Refusal, Scheme, Session};
+///
+/// // u' = -rate u: a rate 1024 times as large takes ten squarings more.
+/// let products = |rate: f64| -> Result<u32, Refusal> {
+///     let mut session = Session::open(Scheme::LawsonEuler, 0.0, &[1.0], &[-rate], 1e-6, 1e-9)?;
+///     let done = session.step_with_jacobian(1.0, &[-rate], |_, u, du| du[0] = -rate * u[0])?;
+///     Ok(done.products)
+/// };
+/// assert_eq!(products(1.0)?, 16);
+/// assert_eq!(products(1024.0)?, 26);
+/// # Ok::<(), Refusal>(())
+/// ```
 #[derive(Clone, Copy, Debug, PartialEq)]
 pub struct Stepped {
     /// The scaled error norm; 0 under schemes without an error estimate.
@@ -213,6 +231,19 @@ pub struct Stepped {
     pub right_hand_sides: u32,
     /// Jacobians: 1.
     pub jacobians: u32,
+    /// Matrix products of the pass: the terms and squarings of every exponential that the published module makes in it, repeats counted.
+    /// At most 47 for each ([`Reach`]), so 1,598 in all: no scheme makes more than the 34 of [`Scheme::HochOst4`].
+    pub products: u32,
+}
+
+/// How far an exponential went. Each term and each squaring is one matrix product.
+#[derive(Clone, Copy, Debug, Eq, Hash, PartialEq)]
+pub struct Reach {
+    /// Terms of the series that were added to the identity: 1 to 15.
+    pub terms: u32,
+    /// Squarings of the sum, as many as the matrix was halved before: none where each row's magnitudes add up to at most 1/2, then one more for
+    /// each doubling, up to 32. They grow with stiffness.
+    pub squarings: u32,
 }
 
 /// The absolute tolerance: one for all components, or one for each.
@@ -295,6 +326,16 @@ impl Told {
     // Whether the call came to this outcome.
     fn is(&self, outcome: usize) -> bool {
         self.words[layout::OUTCOME_AT] == outcome as u64
+    }
+
+    // Of Ready the right-hand sides, the Jacobians and the products; of Filled the terms, the squarings and 0; otherwise zeros.
+    fn counts(&self) -> [u32; layout::COUNTS] {
+        std::array::from_fn(|k| self.words[layout::COUNTS_AT + k] as u32)
+    }
+
+    fn reach(&self) -> Reach {
+        let [terms, squarings, _] = self.counts();
+        Reach { terms, squarings }
     }
 
     // The call's code is 0: every length here is the one that it wants.
@@ -499,10 +540,12 @@ impl Session {
                 state: places,
             }
         } else {
+            let [right_hand_sides, jacobians, products] = t.counts();
             Progress::Ready {
                 error_norm: t.told[0],
-                right_hand_sides: t.words[layout::RHS_AT] as u32,
-                jacobians: t.words[layout::JACOBIANS_AT] as u32,
+                right_hand_sides,
+                jacobians,
+                products,
                 candidate: places,
             }
         }
@@ -681,22 +724,25 @@ impl Session {
         let mut du = [0.0; MOST];
         f(self.time() + step, &places[..n], &mut du[..n]);
         self.accept(&du[..n])?;
+        let [right_hand_sides, jacobians, products] = t.counts();
         Ok(Stepped {
             error_norm: t.told[0],
-            right_hand_sides: t.words[layout::RHS_AT] as u32,
-            jacobians: t.words[layout::JACOBIANS_AT] as u32,
+            right_hand_sides,
+            jacobians,
+            products,
         })
     }
 }
 
-/// The exponential of a matrix of `size` 1 to 20, `size` * `size` entries row by row.
+/// The exponential of a matrix of `size` 1 to 20, `size` * `size` entries row by row, and how far it went.
 ///
 /// ```
-/// let e = vunchrem::exponential(2, &[0.0, 1.0, 0.0, 0.0])?;
+/// let (e, reach) = vunchrem::exponential(2, &[0.0, 1.0, 0.0, 0.0])?;
 /// assert_eq!(e, [1.0, 1.0, 0.0, 1.0]);
+/// assert_eq!((reach.terms, reach.squarings), (2, 1)); // the second term is zero, and the series stops
 /// # Ok::<(), vunchrem::Refusal>(())
 /// ```
-pub fn exponential(size: usize, matrix: &[f64]) -> Result<Vec<f64>, Refusal> {
+pub fn exponential(size: usize, matrix: &[f64]) -> Result<(Vec<f64>, Reach), Refusal> {
     let mut out = vec![0.0; matrix.len()];
     let mut t = Told::new();
     // SAFETY: each pointer and length is that of an array or slice that is lent for the call; no two of the lent ones overlap.
@@ -713,18 +759,20 @@ pub fn exponential(size: usize, matrix: &[f64]) -> Result<Vec<f64>, Refusal> {
             t.told.len(),
         )
     };
-    t.sorted(code)?;
-    Ok(out)
+    let reach = t.sorted(code)?.reach();
+    Ok((out, reach))
 }
 
-/// The phi function of `order` 1 to 4 of `scale` times a matrix, on `input`: n entries, 1 to 16; the matrix has n * n, row by row.
+/// The phi function of `order` 1 to 4 of `scale` times a matrix, on `input`: n entries, 1 to 16; the matrix has n * n, row by row. Beside it, how
+/// far its exponential went, which is that of a matrix of size n + `order` with the input in a column of its own.
 ///
 /// ```
-/// let v = vunchrem::phi_action(1, 1.0, &[0.0], &[2.0])?;
+/// let (v, reach) = vunchrem::phi_action(1, 1.0, &[0.0], &[2.0])?;
 /// assert_eq!(v, [2.0]);
+/// assert_eq!((reach.terms, reach.squarings), (2, 2)); // of the matrix with the rows 0 2 and 0 0
 /// # Ok::<(), vunchrem::Refusal>(())
 /// ```
-pub fn phi_action(order: usize, scale: f64, matrix: &[f64], input: &[f64]) -> Result<Vec<f64>, Refusal> {
+pub fn phi_action(order: usize, scale: f64, matrix: &[f64], input: &[f64]) -> Result<(Vec<f64>, Reach), Refusal> {
     let mut out = vec![0.0; input.len()];
     let mut t = Told::new();
     // SAFETY: as in `exponential`.
@@ -745,8 +793,8 @@ pub fn phi_action(order: usize, scale: f64, matrix: &[f64], input: &[f64]) -> Re
             t.told.len(),
         )
     };
-    t.sorted(code)?;
-    Ok(out)
+    let reach = t.sorted(code)?.reach();
+    Ok((out, reach))
 }
 
 /// The scaled error norm of an error vector at a state and a candidate, each of 1 to 16 entries. It may be infinite, and is never NaN.

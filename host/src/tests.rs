@@ -1,4 +1,5 @@
-//! What the crate adds to the core: the driver, one tolerance or one for each component, saving; and that a refusal leaves the session alone.
+//! What the crate adds to the core: the driver, one tolerance or one for each component, saving; that a refusal leaves the session alone; and which
+//! count is which.
 use super::*;
 
 // The session's numbers and the bits of its figures.
@@ -46,6 +47,10 @@ fn every_scheme_steps_over_a_stiff_problem() {
             let done = s.step(0.01, pair).unwrap();
             assert_eq!(done.jacobians, 1);
             assert!(done.right_hand_sides >= 2, "two questions difference the Jacobian");
+            assert!(
+                (1..=47 * EXPONENTIALS[scheme as usize]).contains(&done.products),
+                "{scheme:?}: {done:?}"
+            );
         }
         assert!((s.time() - 1.0).abs() < 1e-9);
         assert!(near_end(s.state()[1]), "{scheme:?} ended at {:?}", s.state());
@@ -77,6 +82,7 @@ fn the_driver_is_the_calls() {
                 error_norm,
                 right_hand_sides,
                 jacobians,
+                products,
                 candidate,
             } => {
                 let mut du = [0.0; 2];
@@ -86,6 +92,7 @@ fn the_driver_is_the_calls() {
                     error_norm,
                     right_hand_sides,
                     jacobians,
+                    products,
                 };
             }
         }
@@ -220,6 +227,173 @@ fn bare_calls_refuse() {
     assert_eq!(phi_action(5, 1.0, &[0.0], &[1.0]), Err(Refusal::Size));
     assert_eq!(error_norm(0.0, 1.0, &[1.0], &[0.0], &[0.0]), Err(Refusal::Tolerance));
     assert_eq!(error_norm(1.0, 1.0, &[1.0], &[0.0, 0.0], &[0.0]), Err(Refusal::Size));
+}
+
+// The exponentials of a pass of each scheme in the published module, repeats counted; of Etd2 with a history.
+const EXPONENTIALS: [u32; 16] = [1, 1, 2, 9, 12, 34, 7, 5, 5, 8, 7, 5, 7, 4, 3, 9];
+
+fn reach(terms: u32, squarings: u32) -> Result<Reach, Refusal> {
+    Ok(Reach { terms, squarings })
+}
+
+#[test]
+fn an_exponential_tells_how_far_it_went() {
+    let of = |size, m: &[f64]| exponential(size, m).map(|(_, reach)| reach);
+    for size in 1..=20 {
+        assert_eq!(of(size, &vec![0.0; size * size]), reach(1, 0), "the first term is zero");
+    }
+    // 0.5^14 / 14! = 7.0e-16 is more than 2^-52 times the sum, 3.7e-16, and 0.5^15 / 15! = 2.3e-17 is less
+    assert_eq!(of(1, &[0.5]), reach(15, 0));
+    assert_eq!(of(1, &[-0.5]), reach(15, 0));
+    // just above it is halved, and the series is that of 0.25: 0.25^11 / 11! = 6.0e-15, 0.25^12 / 12! = 1.2e-16
+    assert_eq!(of(1, &[0.5f64.next_up()]), reach(12, 1));
+    // halved until 0.5 is left: each doubling is one squaring more
+    for k in 0..=31 {
+        assert_eq!(of(1, &[2f64.powi(k)]), reach(15, k as u32 + 1), "2^{k}");
+        assert_eq!(of(1, &[-2f64.powi(k)]), reach(15, k as u32 + 1), "-2^{k}");
+    }
+    // the largest row sum counts, here 0.5 + 0.5 = 1; the matrix is nilpotent, its third power zero
+    assert_eq!(of(3, &[0.0, 0.5, -0.5, 0.0, 0.0, 0.25, 0.0, 0.0, 0.0]), reach(3, 1));
+}
+
+// What phi_action exponentiates: scale * matrix with the input in the next column, and ones above the diagonal behind it.
+fn augmented(order: usize, scale: f64, matrix: &[f64], input: &[f64]) -> Vec<f64> {
+    let (n, size) = (input.len(), input.len() + order);
+    let mut m = vec![0.0; size * size];
+    for row in 0..n {
+        for column in 0..n {
+            m[row * size + column] = scale * matrix[row * n + column];
+        }
+        m[row * size + n] = input[row];
+    }
+    for row in n..size - 1 {
+        m[row * size + row + 1] = 1.0;
+    }
+    m
+}
+
+#[test]
+fn a_phi_action_tells_how_far_its_exponential_went() {
+    let of = |order, m: &[f64], v: &[f64]| phi_action(order, 1.0, m, v).map(|(_, reach)| reach);
+    // of order 1 the matrix is zero, its first term too; from order 2 on there are ones above the diagonal, and the power of that order is zero
+    for (order, expected) in [(1, reach(1, 0)), (2, reach(2, 1)), (3, reach(3, 1)), (4, reach(4, 1))] {
+        assert_eq!(of(order, &[0.0], &[0.0]), expected);
+        assert_eq!(of(order, &[0.0; 256], &[0.0; 16]), expected);
+    }
+    assert_eq!(of(1, &[0.0], &[0.5]), reach(2, 0));
+    assert_eq!(of(1, &[0.0], &[-2.0]), reach(2, 2));
+    assert_eq!(of(4, &[0.0], &[2.0]), reach(5, 2));
+    for order in 1..=4 {
+        for scale in [1e-3, 0.01, -0.5, 7.0] {
+            let input = [3.0, -0.25];
+            let (_, expected) = exponential(2 + order, &augmented(order, scale, &PAIR, &input)).unwrap();
+            assert_eq!(phi_action(order, scale, &PAIR, &input).unwrap().1, expected);
+        }
+    }
+}
+
+// The products of an attempt with a given Jacobian, every question answered by the same.
+fn products(mut s: Session, step: f64, jacobian: &[f64], answer: &[f64]) -> u32 {
+    let mut progress = s.begin(step, Some(jacobian)).unwrap();
+    loop {
+        match progress {
+            Progress::Ask { .. } => progress = s.supply(answer).unwrap(),
+            Progress::Ready { products, .. } => return products,
+        }
+    }
+}
+
+#[test]
+fn a_pass_adds_up_its_exponentials() {
+    let f0 = [3.0, -0.25];
+    let open = |scheme| Session::open(scheme, 0.0, &[1.0, 2.0], &f0, 1.0, 1.0).unwrap();
+    for h in [1e-4, 0.01, -0.01, 100.0] {
+        // LawsonEuler exponentiates h J, NorsettEuler takes phi_1 of it on the derivative
+        let (_, e) = exponential(2, &PAIR.map(|x| h * x)).unwrap();
+        let (_, phi) = phi_action(1, h, &PAIR, &f0).unwrap();
+        assert_eq!(
+            products(open(Scheme::LawsonEuler), h, &PAIR, &[]),
+            e.terms + e.squarings
+        );
+        assert_eq!(
+            products(open(Scheme::NorsettEuler), h, &PAIR, &[]),
+            phi.terms + phi.squarings
+        );
+    }
+    // Etdrk2 with J = 0, f = 2 at the start and the answer 5. phi_1 on 2: 2 terms and 2 squarings. phi_2 on 5 - 2: the rows 0 3 0, 0 0 1 and 0 0 0
+    // have 3 squarings and, their third power being zero, 3 terms.
+    let s = Session::open(Scheme::Etdrk2, 0.0, &[1.0], &[2.0], 1.0, 1.0).unwrap();
+    assert_eq!(products(s, 1.0, &[0.0], &[5.0]), 2 + 2 + 3 + 3);
+}
+
+#[test]
+fn every_exponential_of_the_published_module_is_counted() {
+    // With J = 0, a derivative of 0 and answers of 0 an exponential and phi_1 have 1 term and no squaring; phi_2, phi_3 and phi_4 have 2, 3 and 4
+    // terms and one squaring (the test of phi actions says why): 1, 1, 3, 4 and 5 products. How many of each a pass of the published module has:
+    let counted = [
+        (Scheme::LawsonEuler, [1, 0, 0, 0, 0]),
+        (Scheme::NorsettEuler, [0, 1, 0, 0, 0]),
+        (Scheme::Etdrk2, [0, 1, 1, 0, 0]),
+        (Scheme::Etdrk3, [0, 3, 3, 3, 0]),
+        (Scheme::Etdrk4, [0, 4, 4, 4, 0]),
+        // phi_1: one each in u2, u3, u4, u5 and at the end. phi_2: 2 in u3, 3 in u4, 10 in u5, 3 at the end. phi_3: 8 in u5, 3 at the end. In u5 a52
+        // stands four times, twice of itself and twice in a54, with two of phi_2 and two of phi_3 each; a54 has one more of phi_2.
+        (Scheme::HochOst4, [0, 5, 18, 11, 0]),
+        (Scheme::Exp4, [0, 7, 0, 0, 0]),
+        (Scheme::Epirk4s3A, [0, 3, 0, 1, 1]),
+        (Scheme::Epirk4s3B, [0, 1, 2, 1, 1]),
+        (Scheme::Epirk5s3, [0, 2, 2, 3, 1]),
+        (Scheme::Exprb53s3, [0, 3, 0, 3, 1]),
+        (Scheme::Epirk5P1, [0, 4, 0, 1, 0]),
+        (Scheme::Epirk5P2, [0, 4, 2, 1, 0]),
+        (Scheme::Etd2, [1, 1, 2, 0, 0]),
+        (Scheme::Exprb32, [0, 1, 0, 2, 0]),
+        (Scheme::Exprb43, [0, 3, 0, 3, 3]),
+    ];
+    for n in [1, 16] {
+        let zero = vec![0.0; n];
+        for (scheme, calls) in counted {
+            let s = match scheme {
+                Scheme::Etd2 => Session::open_with_history(scheme, 0.0, &zero, &zero, 1.0, 1.0, &zero),
+                _ => Session::open(scheme, 0.0, &zero, &zero, 1.0, 1.0),
+            };
+            let expected: u32 = calls
+                .iter()
+                .zip([1, 1, 3, 4, 5])
+                .map(|(calls, each)| calls * each)
+                .sum();
+            assert_eq!(calls.iter().sum::<u32>(), EXPONENTIALS[scheme as usize], "{scheme:?}");
+            assert_eq!(
+                products(s.unwrap(), 0.5, &vec![0.0; n * n], &zero),
+                expected,
+                "{scheme:?}, n is {n}"
+            );
+        }
+    }
+    let zero = |scheme| Session::open(scheme, 0.0, &[0.0], &[0.0], 1.0, 1.0).unwrap();
+    assert_eq!(products(zero(Scheme::HochOst4), 1.0, &[0.0], &[0.0]), 103);
+    assert_eq!(
+        products(zero(Scheme::Etd2), 1.0, &[0.0], &[0.0]),
+        2,
+        "without a history"
+    );
+}
+
+#[test]
+fn products_grow_with_stiffness_up_to_their_bound() {
+    for scheme in Scheme::ALL {
+        let mut last = 0;
+        for rate in [1.0, 1e2, 1e4, 1e6] {
+            let mut s = Session::open(scheme, 0.0, &[1.0], &[-rate], 1.0, 1.0).unwrap();
+            let done = s
+                .step_with_jacobian(1.0, &[-rate], |_, u, du| du[0] = -rate * u[0])
+                .unwrap();
+            assert!(last < done.products, "{scheme:?} at {rate}: {done:?} after {last}");
+            assert!(done.products <= 47 * EXPONENTIALS[scheme as usize]);
+            last = done.products;
+        }
+    }
+    assert_eq!(EXPONENTIALS.iter().max(), Some(&34));
 }
 
 #[test]
