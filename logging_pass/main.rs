@@ -22,17 +22,19 @@ use steppers::{Core, Explicit, Fault, Published, Series, Stepper, reference};
 /// A depth that is off by more is another bed.
 pub const BED: f64 = 0.5;
 
-/// What a run left of the pass: its state after each frame, and why a frame was not stepped.
+/// What a run left of the pass: its state after each frame, why a frame was not stepped, and the matrix products of a
+/// step where they are told.
 pub struct Run {
     pub name: &'static str,
     pub states: Vec<State>,
     pub faults: Vec<Option<Fault>>,
+    pub products: Vec<Option<u32>>,
 }
 
 /// The host, the same for all four. A frame that is not stepped is marked, its words are left out, and the last
 /// good state stays; the next frame's step then runs from the last good frame.
 fn host(name: &'static str, mut stepper: Box<dyn Stepper>, progress: &mut Progress) -> Run {
-    let mut run = Run { name, states: vec![stepper.state()], faults: vec![None] };
+    let mut run = Run { name, states: vec![stepper.state()], faults: vec![None], products: vec![None] };
     let mut good = 0;
     for frame in 1..=FRAMES {
         let between = Between { from: (time(good), received(good)), to: (time(frame), received(frame)) };
@@ -41,6 +43,7 @@ fn host(name: &'static str, mut stepper: Box<dyn Stepper>, progress: &mut Progre
             good = frame;
         }
         run.faults.push(made.err());
+        run.products.push(made.ok().flatten());
         run.states.push(stepper.state());
         progress.show(name, frame);
     }

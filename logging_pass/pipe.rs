@@ -21,8 +21,10 @@ impl Refusal {
     }
 }
 
-/// A step that was made.
-pub struct Stepped;
+/// A step that was made, and its matrix products.
+pub struct Stepped {
+    pub products: u32,
+}
 
 /// A run of the core. A refused step leaves it as it was.
 pub struct Session {
@@ -38,10 +40,15 @@ struct Reply {
     outcome: u8,
     refusal: u8,
     figure: f64,
+    /// Of Ready the right-hand sides, the Jacobians and the products.
+    counts: [u32; 3],
 }
 
 const ASK: u8 = 1;
 const READY: u8 = 2;
+
+/// The bytes of a reply before the lent places: outcome, refusal, figure, counts.
+const FIXED: usize = 1 + 1 + 8 + 3 * 4;
 
 fn put(bytes: &mut Vec<u8>, values: &[f64], places: usize) {
     for place in 0..places {
@@ -107,6 +114,7 @@ impl Session {
             call.extend(length);
             reply = self.call(&call, &mut shown);
         }
+        let [_, _, products] = reply.counts;
         if reply.outcome == READY {
             derivative(self.time + step, &shown, &mut answer);
             call.clear();
@@ -120,18 +128,20 @@ impl Session {
         }
         self.time += step;
         self.state = shown;
-        Ok(Stepped)
+        Ok(Stepped { products })
     }
 
     fn call(&mut self, call: &[u8], lent: &mut [f64]) -> Reply {
-        let mut bytes = vec![0; 18 + 8 * lent.len()];
+        let mut bytes = vec![0; FIXED + 8 * lent.len()];
         let input = self.input.as_mut().expect("it is open until the session ends");
         input.write_all(call).and_then(|()| self.output.read_exact(&mut bytes)).expect("the console answers");
         let double = |at: usize| f64::from_le_bytes(bytes[at..at + 8].try_into().expect("eight bytes"));
+        let count = |at: usize| u32::from_le_bytes(bytes[at..at + 4].try_into().expect("four bytes"));
         for (place, value) in lent.iter_mut().enumerate() {
-            *value = double(18 + 8 * place);
+            *value = double(FIXED + 8 * place);
         }
-        Reply { outcome: bytes[0], refusal: bytes[1], figure: double(2) }
+        let counts = [count(10), count(14), count(18)];
+        Reply { outcome: bytes[0], refusal: bytes[1], figure: double(2), counts }
     }
 }
 

@@ -1,16 +1,19 @@
 //! The pass as a table of figures (CSV) and as a picture (SVG).
 
-use crate::model::{DAMAGED, DEPTH, FRAMES, State, is_slack, received, time};
+use crate::model::{DAMAGED, DEPTH, FRAME, FRAMES, State, is_slack, received, time};
 use crate::steppers::Fault;
 use crate::{Run, error};
 use std::fmt::Write;
+
+/// The core among the runs.
+const CORE: usize = 3;
 
 pub fn csv(runs: &[Run], reference: &[State]) -> String {
     let mut text = String::from("frame,time_s,axial_m_s2,lateral_m_s2,reference_depth_m");
     for name in ["explicit", "series", "published", "core"] {
         write!(text, ",{name}_depth_m,{name}_mark").unwrap();
     }
-    text.push('\n');
+    text.push_str(",products\n");
     for frame in 0..=FRAMES {
         let words = received(frame);
         write!(text, "{frame},{},{:.6},{}", time(frame), words.axial, number(words.lateral)).unwrap();
@@ -23,7 +26,9 @@ pub fn csv(runs: &[Run], reference: &[State]) -> String {
             };
             write!(text, ",{},{mark}", number(run.states[frame][DEPTH])).unwrap();
         }
-        text.push('\n');
+        // Those of the core's step; none where no step was made.
+        let products = runs[CORE].products[frame];
+        writeln!(text, ",{}", products.map_or(String::new(), |count| count.to_string())).unwrap();
     }
     text
 }
@@ -33,7 +38,7 @@ fn number(x: f64) -> String {
 }
 
 const WIDTH: f64 = 960.0;
-const HEIGHT: f64 = 800.0;
+const HEIGHT: f64 = 924.0;
 const LEFT: f64 = 76.0;
 const RIGHT: f64 = 930.0;
 const LAST: f64 = 300.0; // s
@@ -124,6 +129,31 @@ impl Panel {
         }
         left
     }
+
+    /// Draws the count of each step, from the frame before to its own; a frame without one is a gap.
+    fn steps(&self, svg: &mut String, counts: &[Option<u32>], colour: &str, width: f64) {
+        let mut path = String::new();
+        let mut last = None;
+        for (frame, count) in counts.iter().enumerate() {
+            if *count == last {
+                continue;
+            }
+            let start = x(time(frame) - FRAME);
+            if last.is_some() {
+                write!(path, "H{start:.1}").unwrap();
+            }
+            if let Some(count) = count {
+                let y = self.y(f64::from(*count));
+                let way = if last.is_some() { format!("V{y:.1}") } else { format!("M{start:.1},{y:.1}") };
+                path.push_str(&way);
+            }
+            last = *count;
+        }
+        if last.is_some() {
+            write!(path, "H{:.1}", x(time(counts.len() - 1))).unwrap();
+        }
+        writeln!(svg, r#"<path d="{path}" fill="none" stroke="{colour}" stroke-width="{width}"/>"#).unwrap();
+    }
 }
 
 fn line(svg: &mut String, from: (f64, f64), to: (f64, f64), colour: &str, width: f64, more: &str) {
@@ -162,6 +192,9 @@ fn slack(reference: &[State]) -> Vec<(f64, f64)> {
 pub fn svg(runs: &[Run], reference: &[State]) -> String {
     let depth = Panel { top: 112.0, bottom: 440.0, from: 295.0, to: 425.0 };
     let off = Panel { top: 500.0, bottom: 740.0, from: 6.0, to: -2.0 };
+    let counts = runs[CORE].products.iter().flatten().map(|count| f64::from(*count));
+    let (least, most) = (counts.clone().fold(f64::INFINITY, f64::min), counts.fold(0.0, f64::max));
+    let products = Panel { top: 802.0, bottom: 866.0, from: most + 2.0, to: least - 2.0 };
     let mut svg = format!(
         r##"<svg xmlns="http://www.w3.org/2000/svg" viewBox="0 0 {WIDTH} {HEIGHT}" width="{WIDTH}" height="{HEIGHT}" font-family="DejaVu Sans, Verdana, Helvetica, Arial, sans-serif">
 <rect width="{WIDTH}" height="{HEIGHT}" fill="#ffffff"/>
@@ -171,7 +204,7 @@ pub fn svg(runs: &[Run], reference: &[State]) -> String {
     legend(&mut svg, runs);
 
     let damaged = x(time(DAMAGED));
-    for panel in [&depth, &off] {
+    for panel in [&depth, &off, &products] {
         for (from, to) in slack(reference) {
             writeln!(
                 svg,
@@ -187,9 +220,14 @@ pub fn svg(runs: &[Run], reference: &[State]) -> String {
     depth.axes(&mut svg, "tool depth (m)", &[300.0, 320.0, 340.0, 360.0, 380.0, 400.0, 420.0]);
     off.axes(&mut svg, "depth error (m), down positive", &[-2.0, 0.0, 2.0, 4.0, 6.0]);
     line(&mut svg, (LEFT, off.y(0.0)), (RIGHT, off.y(0.0)), "#888888", 1.0, "");
-    text(&mut svg, 0.5 * (LEFT + RIGHT), 782.0, "middle", 14.0, INK, "time (s), eight frames a second");
+    products.axes(&mut svg, "products", &[least, most]);
+    let caption = format!(
+        "matrix products of each step of this core, {least} to {most}; most where the cable is stiff"
+    );
+    text(&mut svg, LEFT, products.top - 9.0, "start", 13.0, INK, &caption);
+    text(&mut svg, 0.5 * (LEFT + RIGHT), 908.0, "middle", 14.0, INK, "time (s), eight frames a second");
 
-    for panel in [&depth, &off] {
+    for panel in [&depth, &off, &products] {
         line(&mut svg, (damaged, panel.top), (damaged, panel.bottom), INK, 1.4, r#" stroke-dasharray="5 4""#);
     }
     let truth: Vec<f64> = reference.iter().map(|state| state[DEPTH]).collect();
@@ -201,6 +239,7 @@ pub fn svg(runs: &[Run], reference: &[State]) -> String {
         depth.curve(&mut svg, &depths, colour, width);
         ends.push(off.curve(&mut svg, &errors, colour, width));
     }
+    products.steps(&mut svg, &runs[CORE].products, LINES[CORE].0, LINES[CORE].1);
 
     let note = format!("damaged word, frame {DAMAGED}");
     text(&mut svg, damaged + 8.0, depth.top + 20.0, "start", 13.0, INK, &note);
@@ -223,7 +262,7 @@ pub fn svg(runs: &[Run], reference: &[State]) -> String {
         let y = off.y(2.4) + 17.0 * row as f64;
         text(&mut svg, RIGHT - 10.0, y, "end", 13.0, LINES[2].0, words);
     }
-    let core = format!("this core: frame refused, {:.2} m off at the end", end(3));
+    let core = format!("this core: frame refused, {:.2} m off at the end", end(CORE));
     text(&mut svg, RIGHT - 10.0, off.y(0.0) + 22.0, "end", 13.0, "#007a57", &core);
     svg.push_str("</svg>\n");
     svg

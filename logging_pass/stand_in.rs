@@ -17,7 +17,9 @@ impl Refusal {
     }
 }
 
-pub struct Stepped;
+pub struct Stepped {
+    pub products: u32,
+}
 
 pub struct Session(Model);
 
@@ -74,7 +76,9 @@ impl Session {
             derivative(time, &shown, &mut answer);
             (told, session) = session.supply(&vector(&answer), &mut shown);
         }
-        if let Answer::Ready { .. } = told {
+        let mut stepped = Stepped { products: 0 };
+        if let Answer::Ready { products, .. } = told {
+            stepped.products = products;
             derivative(session.time + step, &shown, &mut answer);
             (told, session) = session.accept(&vector(&answer));
         }
@@ -82,6 +86,6 @@ impl Session {
             return Err(Refusal(number));
         }
         self.0 = session;
-        Ok(Stepped)
+        Ok(stepped)
     }
 }

@@ -19,8 +19,8 @@ pub enum Fault {
 }
 
 pub trait Stepper {
-    /// One step from `between.from` to `between.to`.
-    fn step(&mut self, between: &Between) -> Result<(), Fault>;
+    /// One step from `between.from` to `between.to`, and its matrix products where they are told.
+    fn step(&mut self, between: &Between) -> Result<Option<u32>, Fault>;
     fn state(&self) -> State;
 }
 
@@ -52,10 +52,10 @@ fn runge_kutta(between: &Between, time: f64, step: f64, u: &State) -> State {
 pub struct Explicit(pub State);
 
 impl Stepper for Explicit {
-    fn step(&mut self, between: &Between) -> Result<(), Fault> {
+    fn step(&mut self, between: &Between) -> Result<Option<u32>, Fault> {
         let (from, to) = (between.from.0, between.to.0);
         self.0 = finite(runge_kutta(between, from, to - from, &self.0))?;
-        Ok(())
+        Ok(None)
     }
 
     fn state(&self) -> State {
@@ -105,7 +105,7 @@ fn series_phi(jacobian: &[f64], step: f64, order: usize, input: &State) -> State
 }
 
 impl Stepper for Series {
-    fn step(&mut self, between: &Between) -> Result<(), Fault> {
+    fn step(&mut self, between: &Between) -> Result<Option<u32>, Fault> {
         let (time, u) = (between.from.0, self.0);
         let step = between.to.0 - time;
         let f0 = rate(between, time, &u);
@@ -123,7 +123,7 @@ impl Stepper for Series {
         let linear = published::mat_vec(&jacobian, &moved);
         let rest = std::array::from_fn(|i| f1[i] - f0[i] - linear[i]);
         self.0 = finite(plus(&first, step, &series_phi(&jacobian, step, 2, &rest)))?;
-        Ok(())
+        Ok(None)
     }
 
     fn state(&self) -> State {
@@ -153,7 +153,7 @@ impl Published {
 }
 
 impl Stepper for Published {
-    fn step(&mut self, between: &Between) -> Result<(), Fault> {
+    fn step(&mut self, between: &Between) -> Result<Option<u32>, Fault> {
         let (from, to) = (between.from.0, between.to.0);
         let between = *between;
         let problem = OdeProblem::new(move |du: &mut [f64], u: &[f64], _: &(), t: f64| {
@@ -168,7 +168,7 @@ impl Stepper for Published {
             .and_then(|_| self.kernel.accept_step(&problem, &candidate, to, &mut stats))
             .map_err(|_| Fault::NotFinite)?;
         self.state = candidate;
-        Ok(())
+        Ok(None)
     }
 
     fn state(&self) -> State {
@@ -188,11 +188,11 @@ impl Core {
 }
 
 impl Stepper for Core {
-    fn step(&mut self, between: &Between) -> Result<(), Fault> {
+    fn step(&mut self, between: &Between) -> Result<Option<u32>, Fault> {
         let step = between.to.0 - self.0.time();
         self.0
             .step(step, |t, u, du| derivative(between, t, u, du))
-            .map(|_| ())
+            .map(|stepped| Some(stepped.products))
             .map_err(|refusal| Fault::Refused(refusal.number()))
     }
 

@@ -71,7 +71,7 @@ pub fn report(states: &[State]) -> String {
         *rust.entry(published(state, frames)).or_default() += 1;
         let between = Between { from: frames[0], to: frames[1] };
         let told = match Core::new(*state, &between).step(&between) {
-            Ok(()) => "calls it good".into(),
+            Ok(_) => "calls it good".into(),
             Err(Fault::Refused(number)) => format!("refuses it by {number}"),
             Err(Fault::NotFinite) => "not finite".into(),
         };
