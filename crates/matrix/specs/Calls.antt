@@ -62,7 +62,7 @@ pub record Worked (m : List Float) (n count : ℕ) (m' after : List Float) (term
   pub output : after ≡ squared count (taylor (scaled m count) n .sum) n
   pub number : terms ≡ taylor (scaled m count) n .terms
 
--- matrix_exp: how far it goes, and no further than is said; where m is admitted, m is left divided, and the output is the exponential; otherwise both are as they were
+-- matrix_exp: how far it goes, and that this is no further than `Few`; where m is admitted, m is left divided, and the output is the exponential; otherwise both are as they were
 pub record Filled (m : List Float) (n : ℕ) (m' before after : List Float) (r : Reach) : Type 0 where
   pub told : r ≡ reach m n
   pub few : Few (r .terms) (r .squarings)

@@ -3,6 +3,7 @@ use Prim.Native.Nat.{ℕ, zero, suc, _+_, _*_, _≤_, _<_}
 use mathlib.Core.Path.{_≡_, refl}
 use mathlib.Core.Bool.{Bool, true, false, cond}
 use mathlib.Core.List.{List, [], _∷_}
+use native.Mathlib.Nat.{mul-add}
 use native.Mathlib.Omega.{arith}
 use lib.Dec.{T, eqb, ltb, lit≤}
 use lib.Ieee.{Float, binary64, fits, ofBits, ofFields, odd}
@@ -54,11 +55,10 @@ unfolding unadmitted
 took-unadmitted b = took-tested b false
 
 pub took-joined : (b : Bool) {j k : ℕ} {x y : Tally} → Took b j x → Took b k y → Took b (j + k) (joined x y)
-unfolding joined termRoom
-took-joined true p q =
-    record { number = omega (arith, p .number, q .number); terms = omega (arith, p .terms, q .terms); squarings = omega (arith, p .squarings, q .squarings) }
-took-joined false p q =
-    record { number = omega (arith, p .number, q .number); terms = omega (arith, p .terms, q .terms); squarings = omega (arith, p .squarings, q .squarings) }
+unfolding joined
+took-joined b {j} {k} p q =
+    let room = mul-add (termRoom b) j k in
+    record { number = omega (arith, p .number, q .number); terms = omega (arith, room, p .terms, q .terms); squarings = omega (arith, p .squarings, q .squarings) }
 
 -- the series adds no more terms than it has room for
 series-room : (d : ℕ) (a : List Float) (n : ℕ) (t r : List Float) (k : ℕ) → series d a n t r k .terms ≤ k + d
