@@ -1,5 +1,7 @@
 // The calls over a pipe: reads a script of calls from standard input and writes a reply to each to standard output (docs/CONSOLE.md).
 // It holds one session, and starts with the one that a refused open gives.
+#![tactic(auto)]
+
 ghost use Rattle.std.specs.Prelude.{◌≡◌, ◌+◌, ◌*◌, ◌≤◌, length};
 ghost use Rattle.image.specs.Image.{NUMBERS};
 ghost use Rattle.session.specs.Figures.{FIGURES};
@@ -8,7 +10,7 @@ ghost use Rattle.session.specs.Old.{old_figures};
 use session::{Answer, Head, History, Session, Wish};
 
 // Whether the run goes on, and the session that it goes on with.
-#[derive(Drop)]
+#[derive(Clone, Copy)]
 struct Next {
     on: bool,
     session: Session,
@@ -260,7 +262,7 @@ fn exponential_call(s: Session) -> Next {
 }
 
 // What a bare phi action is handed besides its arrays.
-#[derive(Drop)]
+#[derive(Clone, Copy)]
 struct Phi {
     n: usize,
     order: usize,

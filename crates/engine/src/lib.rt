@@ -1,4 +1,6 @@
 // engine.rs: the differenced Jacobian, the error norm and the first step.
+#![tactic(auto)]
+
 ghost use Rattle.std.specs.Prelude.{◌≡◌, true, ◌+◌, ◌*◌, ◌≤◌, ◌<◌, length};
 ghost use Rattle.loops.specs.Loop.{every, mat, stores, ◌!◌};
 ghost use Rattle.float.specs.Arith.{◌⊕◌, ◌⊖◌, ◌⊗◌, ◌⊘◌, finite, abs, larger};

@@ -1,4 +1,6 @@
 // evaluation.rs: what an evaluated right-hand side is tested for. The evaluation itself is the host's.
+#![tactic(auto)]
+
 ghost use Rattle.std.specs.Prelude.{◌≡◌, ◌&&◌, ◌+◌, ◌≤◌, ◌<◌, length};
 ghost use Rattle.loops.specs.Loop.{every, ◌!◌};
 ghost use Rattle.float.specs.Arith.{finite, mark};

@@ -1,6 +1,8 @@
 // methods.rs: exp4, epirk4s3, epirk5s3 and epirk5p, the schemes over remainders. A pass is replayed over
 // the answers so far: a scheme works out the state of its first question, and a function for each
 // question takes the pass up there. A phi term that the question to come does not use is only tested.
+#![tactic(auto)]
+
 ghost use Rattle.std.specs.Prelude.{◌≡◌, cond, List, ℕ, ◌+◌, ◌-◌, ◌≤◌, leb, Float};
 ghost use Rattle.methods.specs.Numbers.{num};
 ghost use Rattle.methods.specs.Vectors.{Sized};

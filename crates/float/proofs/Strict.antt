@@ -1,7 +1,7 @@
 -- The rounded root is enclosed by the squares of the points midway to the doubles next to it. With q its 53 digits and k the power that goes with them, these are (2 * q - 1) * 2 ^ k / 2 and
 -- (2 * q + 1) * 2 ^ k / 2. At the least q the double below is only half as far, so there the point below is (4 * q - 1) * 2 ^ k / 4. There is no tie. Assumes nothing.
 use mathlib.Core.Path.{◌≡◌, sym, ap, ◌∙◌, subst}
-use Prim.Native.Nat.{ℕ, suc, ◌+◌, ◌-◌, ◌*◌, ◌^◌, ◌≤◌, ◌<◌}
+use Prim.Native.Nat.{ℕ, zero, suc, ◌+◌, ◌-◌, ◌*◌, ◌^◌, ◌≤◌, ◌<◌}
 use native.Mathlib.Nat.{le_of_eq, lt_of_lt_of_le, lt_of_le_of_lt, lt_of_not-le, mul_assoc, mul-pos, mul-lt-mul_of_pos_right, add-sub_of_le}
 use native.Mathlib.Omega.{arith}
 use mathlib.Core.Bool.{Bool, true, false, not, cond}
@@ -40,6 +40,7 @@ no_carry v q rest b h l g = lt_of_not-le (λ (f : 2 ^ 53 ≤ suc q). absurd (cla
 
 -- the midpoints of the one that is rounded down, and of the one that is rounded up
 less : (n q rest : ℕ) → 0 < q → Rooted n q rest → square (2 * q - 1) < 4 * n
+less n zero rest p h = elim p [ ]
 less n (suc q) rest p h = omega (arith, h.whole, square-suc q, square_odd q, ap square (same q))
   where
     same : (q : ℕ) → 2 * suc q - 1 ≡ 2 * q + 1
@@ -58,6 +59,7 @@ not_least : (q : ℕ) → 2 ^ 52 ≤ q → suc q ≡ 2 ^ 52 → ⊥
 not_least q a e = omega arith
 
 at_least : (n q rest : ℕ) → 0 < q → Rooted n q rest → square (4 * q - 1) < 16 * n
+at_least n zero rest p h = elim p [ ]
 at_least n (suc q) rest p h = omega (arith, h.whole, square-suc q, square_open q, ap square (same q))
   where
     same : (q : ℕ) → 4 * suc q - 1 ≡ 4 * q + 3

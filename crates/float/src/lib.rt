@@ -1,4 +1,6 @@
 // Single doubles: the helpers that the Rust has from its library, and the square root.
+#![tactic(auto)]
+
 ghost use Rattle.std.specs.Prelude.{◌≡◌, false, cond, suc, ◌+◌, ◌*◌, ◌^◌, ◌<◌, ◌≤◌, ltb};
 ghost use Rattle.std.specs.Float.{binary64};
 ghost use Rattle.std.specs.Float.Ieee.{odd};
@@ -65,7 +67,7 @@ pub fn powi4(x: f64) -> f64
 }
 
 // A number's root so far, and what is left of the number once the root's square is taken off.
-#[derive(Drop)]
+#[derive(Clone, Copy)]
 pub struct Digits {
     pub root: u64,
     pub rest: u64,
@@ -135,7 +137,7 @@ fn rounded(root: u64, rest: u64) -> u64
 }
 
 // A number as digits * 2 ^ power.
-#[derive(Drop)]
+#[derive(Clone, Copy)]
 pub struct Parts {
     pub digits: u64,
     pub power: u64,

@@ -1,6 +1,8 @@
 // Replays the oracle's list for single doubles: from each record of standard input, an op and two doubles, it writes eight bytes.
 
 // The reply to an op: a double's pattern, or 1 for a test that holds and 0 for one that does not.
+#![tactic(auto)]
+
 fn reply(op: u8, x: f64, y: f64) -> u64 {
     match op {
         0 => wire::pattern(float::sqrt(x)),

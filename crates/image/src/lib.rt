@@ -3,6 +3,8 @@
 //
 // A number that its field cannot hold is none that is good: a scheme above 255 counts as 255, a history above 1 as held, an attempt above 2 as
 // differenced, a wish above 1 as a Jacobian that is given. n and count are taken as they are.
+#![tactic(auto)]
+
 ghost use Rattle.std.specs.Prelude.{◌≡◌, length};
 ghost use Rattle.image.specs.Image.{VECTOR, NUMBERS};
 ghost use Rattle.image.specs.Image.{scheme_of, history_of, attempt_of, wish_of, history_number, attempt_number, head_in, packed, fields};
@@ -89,7 +91,7 @@ pub const FILLED: u8 = 5;
 pub const NORM: u8 = 6;
 
 // What is told of an answer: the outcome, the refusal's number (0 for none), the figure that it carries, and the counts.
-#[derive(Drop)]
+#[derive(Clone, Copy)]
 pub struct Reply {
     pub outcome: u8,
     pub refusal: u8,

@@ -1,6 +1,8 @@
 // methods.rs: lawson_euler, norsett_euler, etd2, etdrk2, etdrk3, etdrk4 and hoch_ost4. A pass is replayed
 // over the answers so far: a scheme works out the state of its first question, and a function for each
 // question takes the pass up there.
+#![tactic(auto)]
+
 ghost use Rattle.std.specs.Prelude.{◌≡◌, List, ℕ, ◌+◌, ◌-◌, ◌≤◌, Float};
 ghost use Rattle.methods.specs.Vectors.{Sized};
 ghost use Rattle.methods.specs.Given.{Given};

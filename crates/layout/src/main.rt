@@ -1,6 +1,8 @@
 // Writes the constants of a session's image, one to a line, as the crate `image` has them. The C header's, the Rust crate's and the oracle's
 // are compared with these lines, which crates/layout/stdout holds.
 
+#![tactic(auto)]
+
 fn digit(x: usize) -> u8 {
     (x % 10) as u8 + 48
 }

@@ -9,6 +9,8 @@
 // A call works on the figures that it is lent, copies no session, and writes only what changes. A refused call leaves numbers, figures and
 // output as they were. A refused open overwrites numbers and figures, whatever they held: they become those of the session that a refused open
 // gives, which any call refuses. Bringing a session over tells nothing but its code.
+#![tactic(auto)]
+
 ghost use Rattle.std.specs.Prelude.{◌≡◌, true, cond, eqb, length};
 ghost use Rattle.image.specs.Image.{VECTOR, MATRIX, NUMBERS, scheme_of, history_of, wish_of, packed};
 ghost use Rattle.library.specs.Library.{room, slices, heard, fitting, vectors, Hears, Said, Open, BringOver, Call, CallLent, Ask, Bared, BaredLent};

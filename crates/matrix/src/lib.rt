@@ -1,5 +1,7 @@
 // matrix.rs: the identity, products, and the exponential by scaling, Taylor's series and squaring.
 // A matrix of size n is a slice of n * n entries, row by row.
+#![tactic(auto)]
+
 ghost use Rattle.std.specs.Prelude.{◌≡◌, ◌+◌, ◌*◌, ◌≤◌, ◌<◌, true, false, length};
 ghost use Rattle.std.specs.Float.Ieee.{le, is_nan};
 ghost use Rattle.loops.specs.Loop.{stores, ◌!◌};
@@ -183,7 +185,7 @@ fn row_sum(m: &[f64], i: usize, n: usize) -> f64
 }
 
 // The largest row sum, and whether every row sum is finite and at most 2^31.
-#[derive(Drop)]
+#[derive(Clone, Copy)]
 struct Norm {
     ok: bool,
     value: f64,
@@ -206,7 +208,7 @@ fn row_norm(m: &[f64], n: usize) -> Norm
 // ---- step 2: how often to square
 
 // A number of squarings, and 2 to that power, by which the matrix is divided.
-#[derive(Drop)]
+#[derive(Clone, Copy)]
 struct Scale {
     count: u32,
     divisor: f64,
@@ -433,7 +435,7 @@ fn exp_roomy(m: &mut [f64], out: &mut [f64], count: u32, divisor: f64, n: usize)
 }
 
 // How far an exponential went: whether it was made, the terms that were added to its series, and the squarings.
-#[derive(Drop)]
+#[derive(Clone, Copy)]
 pub struct Reach {
     pub ok: bool,
     pub terms: u32,

@@ -1,6 +1,8 @@
 // Replays the oracle's list for the exponential. A record of standard input is a size, one byte, and
 // size * size doubles; the reply is byte 1, terms and squarings, a byte each, and as many doubles, or byte 0
 // where a row sum is refused.
+#![tactic(auto)]
+
 ghost use Rattle.std.specs.Prelude.{◌+◌, ◌*◌, ◌≤◌, ◌≡◌, length};
 
 // The doubles of a record.

@@ -1,6 +1,8 @@
 // methods.rs: vectors, the actions of exponentials, and the parts of a pass, which is replayed over the
 // answers so far. The definitions of all sixteen schemes are here. Their code is in the crates
 // `lawson_etd`, `exp4_epirk` and `rosenbrock`, and perform_step in `schemes`.
+#![tactic(auto)]
+
 ghost use Rattle.std.specs.Prelude.{◌≡◌, ◌+◌, ◌-◌, ◌*◌, ◌<◌, ◌≤◌, [], ◌∷◌, length, replicate};
 ghost use Rattle.float.specs.Arith.{◌⊗◌, zero+, abs, sum_of};
 ghost use Rattle.loops.specs.Loop.{mat, stores};
@@ -32,7 +34,7 @@ pub type Vector = [f64; PLACES];
 
 // What exponentials report: `ok` says that every row sum was admitted; how many they are, and how many terms
 // and squarings they took.
-#[derive(Drop)]
+#[derive(Clone, Copy)]
 pub struct Tally {
     pub ok: bool,
     pub exponentials: u32,
@@ -41,21 +43,21 @@ pub struct Tally {
 }
 
 // What is told of them at the end: how many they are, and their terms and squarings together.
-#[derive(Drop)]
+#[derive(Clone, Copy)]
 pub struct Work {
     pub exponentials: u32,
     pub products: u32,
 }
 
 // A vector that exponentials were worked out for, with what they report; +0.0 where one was not admitted.
-#[derive(Drop)]
+#[derive(Clone, Copy)]
 pub struct Action {
     pub v: Vector,
     pub tally: Tally,
 }
 
 // What a scheme starts from.
-#[derive(Drop)]
+#[derive(Clone, Copy)]
 pub struct Point {
     pub n: usize,
     pub time: f64,
@@ -67,7 +69,7 @@ pub struct Point {
 }
 
 // Whether a pass asks, at which time, or has ended.
-#[derive(Drop)]
+#[derive(Clone, Copy)]
 pub enum Kind {
     Question(f64),
     Done,
@@ -75,7 +77,7 @@ pub enum Kind {
 
 // Where a scheme's pass stands: the state that it asks about, or its candidate with the error vector.
 // The tally: every test on the way held, and what the exponentials took.
-#[derive(Drop)]
+#[derive(Clone, Copy)]
 pub struct Out {
     pub x: Vector,
     pub e: Vector,
@@ -84,7 +86,7 @@ pub struct Out {
 }
 
 // The same of a whole step, with f0 - J u and the work of its exponentials.
-#[derive(Drop)]
+#[derive(Clone, Copy)]
 pub struct StepResult {
     pub state: Vector,
     pub error: Vector,

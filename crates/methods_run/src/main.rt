@@ -3,6 +3,8 @@
 // Jacobian, history and answers as doubles. The reply is byte 0 (refused by 6); or 1, the asked time and
 // state; or 2, how many exponentials were made and the matrix products that they took, as u32, the candidate,
 // whether there is an error, a byte, the error, and f0 - J u.
+#![tactic(auto)]
+
 ghost use Rattle.std.specs.Prelude.{◌+◌, ◌≤◌, ◌≡◌, length};
 ghost use Rattle.methods.specs.Vectors.{Sized};
 

@@ -2,6 +2,8 @@
 // error vector. A pass is replayed over the answers so far: a scheme works out the state of its first
 // question, and a function for each question takes the pass up there. A phi action that the question to
 // come does not use is only tested.
+#![tactic(auto)]
+
 ghost use Rattle.std.specs.Prelude.{◌≡◌, ◌+◌, ◌-◌, ◌≤◌};
 ghost use Rattle.matrix.specs.Vector.{mat_vec};
 ghost use Rattle.methods.specs.Given.{Given};

@@ -1,4 +1,6 @@
 // methods.rs: perform_step, the choice of a scheme by its number and what stands around it.
+#![tactic(auto)]
+
 ghost use Rattle.std.specs.Prelude.{◌≡◌, List, ◌≤◌, Float};
 ghost use Rattle.matrix.specs.Vector.{mat_vec};
 ghost use Rattle.methods.specs.Given.{Given};

@@ -1,5 +1,7 @@
 // general.rs and document 01's session: the record, what a call refuses it for, the attempt as far as its answers go, the calls, and the
 // bare calls.
+#![tactic(auto)]
+
 ghost use Rattle.std.specs.Prelude.{◌≡◌, true, cond, ◌&&◌, List, ◌+◌, ◌-◌, ◌*◌, ◌≤◌, ◌<◌, ltb, eqb, Float, length};
 ghost use Rattle.loops.specs.Loop.{every, stores, ◌!◌};
 ghost use Rattle.evaluation.specs.Evaluation.{all_finite};
@@ -37,14 +39,14 @@ pub const SCHEMES: u8 = 16;
 pub const LARGEST: usize = 20;
 
 // Whether there is an Etd2 history.
-#[derive(Drop)]
+#[derive(Clone, Copy)]
 pub enum History {
     Missing,
     Held,
 }
 
 // Whether there is an attempt, and whether its Jacobian is supplied or differenced.
-#[derive(Drop)]
+#[derive(Clone, Copy)]
 pub enum Attempt {
     None,
     Supplied,
@@ -52,7 +54,7 @@ pub enum Attempt {
 }
 
 // What begin is handed: a Jacobian, or the wish to difference.
-#[derive(Drop)]
+#[derive(Clone, Copy)]
 pub enum Wish {
     Given,
     Difference,
@@ -60,7 +62,7 @@ pub enum Wish {
 
 // What a call tells the host. Ask: the time of the question. Ready: the error norm, right-hand sides, Jacobians and matrix products. Filled:
 // the terms and squarings of the exponential.
-#[derive(Drop)]
+#[derive(Clone, Copy)]
 pub enum Answer {
     Ask(f64),
     Ready(f64, u32, u32, u32),
@@ -73,7 +75,7 @@ pub enum Answer {
 
 // A run and its attempt. Entries past n and places not in use are +0.0; the Jacobian fills the first n * n places, row by row; answer k
 // begins at place 16 k.
-#[derive(Drop)]
+#[derive(Clone, Copy)]
 pub struct Session {
     pub scheme: u8,
     pub n: usize,
@@ -92,7 +94,7 @@ pub struct Session {
 }
 
 // A session of the layout before request 1: one absolute tolerance for all components.
-#[derive(Drop)]
+#[derive(Clone, Copy)]
 pub struct OldSession {
     pub scheme: u8,
     pub n: usize,
@@ -111,7 +113,7 @@ pub struct OldSession {
 }
 
 // What of a session is no double; its figures are lent beside it.
-#[derive(Drop)]
+#[derive(Clone, Copy)]
 pub struct Head {
     pub scheme: u8,
     pub n: usize,
@@ -121,21 +123,21 @@ pub struct Head {
 }
 
 // An answer, and the head of the session whose figures the call left.
-#[derive(Drop)]
+#[derive(Clone, Copy)]
 pub struct Left {
     pub answer: Answer,
     pub head: Head,
 }
 
 // An answer, and the session that comes back.
-#[derive(Drop)]
+#[derive(Clone, Copy)]
 pub struct Told {
     pub answer: Answer,
     pub session: Session,
 }
 
 // The phase of a session: at rest, asking, or with all its answers and waiting for accept.
-#[derive(Drop)]
+#[derive(Clone, Copy)]
 pub enum Phase {
     Rest,
     Asking,
@@ -143,7 +145,7 @@ pub enum Phase {
 }
 
 // In which phase a call wants the session.
-#[derive(Drop)]
+#[derive(Clone, Copy)]
 pub enum Wants {
     Any,
     Only(Phase),
@@ -723,7 +725,7 @@ fn answer_of(
 }
 
 // What is told of a session with an attempt, unless it is refused by 6.
-#[derive(Drop)]
+#[derive(Clone, Copy)]
 struct Shown {
     ok: bool,
     answer: Answer,

@@ -1,0 +1,11 @@
+-- `image::history_number` meets its contract. Assumes nothing.
+use Rattle.image.specs.Image.{history_number}
+use Rattle.image.proofs.history_number.Goals as goal
+
+pub returns-in-Missing : goal.returns-in-Missing
+unfolding history_number
+returns-in-Missing c = rw c.enum_told-1.given.1
+
+pub returns-in-Held : goal.returns-in-Held
+unfolding history_number
+returns-in-Held c = rw c.enum_told-in-Held-1.given.1

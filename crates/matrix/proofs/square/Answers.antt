@@ -1,0 +1,14 @@
+-- `matrix::square` meets its contract: each turn squares twice. Assumes nothing.
+use Prim.Native.Nat.{◌-◌}
+use native.Mathlib.Omega.{arith}
+use Rattle.matrix.proofs.Products.{squared_none, squared_end, pair_step}
+use Rattle.matrix.proofs.square.Goals as goal
+
+pub loop-init : goal.loop-init
+loop-init c = (omega arith, omega arith, omega arith, squared_none _ _)
+
+pub loop-preserved : goal.loop-preserved
+loop-preserved c = (omega arith, omega arith, omega arith, pair_step _ _ _ _ _ _ c.mat_mul.ensures c.mat_mul-in-loop.ensures c.loop.invariant.3)
+
+pub returns : goal.returns
+returns c = squared_end _ _ _ _ _ (omega arith) c.loop.invariant.3

@@ -1,0 +1,11 @@
+-- `matrix_run::load` meets its contract. Assumes nothing.
+use Prim.Native.Nat.{◌-◌, ◌≤◌}
+use mathlib.Core.Path.{◌≡◌}
+use lib.ListN.{length}
+use Rattle.matrix_run.proofs.load.Given as goal
+
+abbrev pub invariant-loop-p : goal.invariant-loop-p
+invariant-loop-p l = (l.p-end ≡ length l.initial.m) × (l.p ≤ l.p-end) × (length l.m ≡ length l.initial.m)
+
+abbrev pub decreases-loop-p : goal.decreases-loop-p
+decreases-loop-p l = l.p-end - l.p

@@ -1,0 +1,7 @@
+-- `methods::added`: one call. Assumes nothing.
+use Rattle.methods.specs.Phi.{over}
+use Rattle.methods.proofs.added.Goals as goal
+
+pub returns : goal.returns
+unfolding over
+returns c = rw c.add.ensures

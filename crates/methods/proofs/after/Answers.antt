@@ -1,0 +1,7 @@
+-- `methods::after`: one call. Assumes nothing.
+use Rattle.methods.specs.Phi.{over}
+use Rattle.methods.proofs.after.Goals as goal
+
+pub returns : goal.returns
+unfolding over
+returns c = rw c.axpy.ensures

@@ -1,0 +1,7 @@
+-- `methods::scaled`: one call. Assumes nothing.
+use Rattle.methods.specs.Phi.{over}
+use Rattle.methods.proofs.scaled.Goals as goal
+
+pub returns : goal.returns
+unfolding over
+returns c = rw c.scale.ensures

@@ -1,0 +1,35 @@
+-- `session::attempt_fault` meets its contract. Assumes nothing.
+use mathlib.Core.Path.{sym, ap, ◌∙◌}
+use mathlib.Core.Bool.{◌&&◌}
+use lib.Dec.{eqb}
+use Rattle.session.specs.Calls.{attempt_tests}
+use Rattle.session.proofs.Tests.{stops, holds_on, all_hold}
+use Rattle.session.proofs.attempt_fault.Goals as goal
+
+pub used_jacobian-requires : goal.used_jacobian-requires
+unfolding attempt_tests
+used_jacobian-requires c = c.requires
+
+pub clear-requires : goal.clear-requires
+unfolding attempt_tests
+clear-requires c = λ e. sym c.all_finite-calm.ensures ∙ e
+
+pub returns-then-not-clear-lent : goal.returns-then-not-clear-lent
+unfolding attempt_tests
+returns-then-not-clear-lent c = rw (← c.used_jacobian.ensures) (stops 1 _ (ap (λ b. b && eqb c.args.lent c.args.n) c.clear.ensures) c.if-not-clear-lent.true)
+
+pub returns-then-not-step_ok : goal.returns-then-not-step_ok
+unfolding attempt_tests
+returns-then-not-step_ok c = rw (← c.used_jacobian.ensures) (holds_on 1 _ (ap (λ b. b && eqb c.args.lent c.args.n) c.clear.ensures) c.if-not-clear-lent.false (stops 5 _ c.step_ok.ensures c.if-not-step_ok.true))
+
+pub returns-then-not-calm : goal.returns-then-not-calm
+unfolding attempt_tests
+returns-then-not-calm c =
+    rw (← c.used_jacobian.ensures) (holds_on 1 _ (ap (λ b. b && eqb c.args.lent c.args.n) c.clear.ensures) c.if-not-clear-lent.false
+    (holds_on 5 _ c.step_ok.ensures c.if-not-step_ok.false (stops 3 _ c.all_finite-calm.ensures c.if-not-calm.true)))
+
+pub returns : goal.returns
+unfolding attempt_tests
+returns c =
+    rw (← c.used_jacobian.ensures) (holds_on 1 _ (ap (λ b. b && eqb c.args.lent c.args.n) c.clear.ensures) c.if-not-clear-lent.false
+    (holds_on 5 _ c.step_ok.ensures c.if-not-step_ok.false (holds_on 3 _ c.all_finite-calm.ensures c.if-not-calm.false all_hold)))

@@ -1,0 +1,11 @@
+-- `session::is_held` meets its contract. Assumes nothing.
+use Rattle.session.specs.Session.{is_held}
+use Rattle.session.proofs.is_held.Goals as goal
+
+pub returns-in-Missing : goal.returns-in-Missing
+unfolding is_held
+returns-in-Missing c = rw c.enum_told-1.given.1
+
+pub returns-in-Held : goal.returns-in-Held
+unfolding is_held
+returns-in-Held c = rw c.enum_told-in-Held-1.given.1

@@ -1,0 +1,13 @@
+-- `session::largest_fault` meets its contract. Assumes nothing.
+use mathlib.Core.Path.{refl}
+use Rattle.session.specs.Calls.{largest_tests}
+use Rattle.session.proofs.Tests.{stops, holds_on, all_hold}
+use Rattle.session.proofs.largest_fault.Goals as goal
+
+pub returns-then-not-largest : goal.returns-then-not-largest
+unfolding largest_tests
+returns-then-not-largest c = stops 5 _ refl c.if-not-largest.true
+
+pub returns : goal.returns
+unfolding largest_tests
+returns c = holds_on 5 _ refl c.if-not-largest.false all_hold

@@ -1,0 +1,15 @@
+-- `session::places::clear_each` meets its contract. Assumes nothing.
+use Prim.Native.Nat.{◌-◌, ◌≤◌}
+use mathlib.Core.Path.{◌≡◌}
+use lib.ListN.{length}
+use mathlib.Core.Bool.{◌||◌}
+use lib.Dec.{ltb}
+use Rattle.loops.specs.Loop.{every, ◌!◌}
+use Rattle.float.specs.Arith.{plus_zero}
+use Rattle.session.proofs.places.clear_each.Given as goal
+
+abbrev pub invariant-loop-i : goal.invariant-loop-i
+invariant-loop-i l = (l.i ≤ l.i-end) × (l.i-end ≡ length l.x) × (l.ok ≡ every l.i (λ p. ltb p l.used || plus_zero (l.x ! p)))
+
+abbrev pub decreases-loop-i : goal.decreases-loop-i
+decreases-loop-i l = l.i-end - l.i
