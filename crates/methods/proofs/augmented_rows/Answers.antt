@@ -6,8 +6,7 @@ use Rattle.methods.proofs.augmented_rows.Goals as goal
 
 pub loop-i-init : goal.loop-i-init
 loop-i-init c =
-    let pre = (c.requires.sized, (c.requires.n_lt_size, c.requires.out_value)) in
-    (omega arith, rows_length _ _ 0 _ pre.1.1, rows_length _ _ 0 _ pre.1.1, pre.1.1)
+    (omega arith, rows_length _ _ 0 _ c.requires.out_value, rows_length _ _ 0 _ c.requires.out_value, c.requires.out_value)
 
 pub overflow_mul-i : goal.overflow_mul-i
 overflow_mul-i c = omega (arith, row_small c.loop-i.i c.args.size 20 (omega arith) (omega arith))
