@@ -63,14 +63,14 @@ def antt(text, rows, own):
 def rt(text, rows):
     """No name of the source is in camel case or has a dash."""
     kept = foreign(text)
-    made = {k: v for k, v in rows.items() if (CAMEL.search(k) or "-" in k) and k not in kept}
+    made = {k: v for k, v in rows.items() if (CAMEL.search(k) or "-" in k or "·" in k) and k not in kept}
     camel = {k: v for k, v in made.items() if CAMEL.search(k)}
     return "\n".join(words(line, camel if line.lstrip().startswith("//") else made) for line in text.split("\n"))
 
 
 def main():
     rows = table()
-    made = {k: v for k, v in rows.items() if CAMEL.search(k) or "-" in k}
+    made = {k: v for k, v in rows.items() if CAMEL.search(k) or "-" in k or "·" in k}
     changed = 0
     paths = [p for kind in ("antt", "rt", "edit") for p in glob.glob(os.path.join(TOP, "crates", "**", "*." + kind), recursive=True)]
     paths += [p for p in glob.glob(os.path.join(TOP, "**", "*.md"), recursive=True)]

@@ -10,7 +10,7 @@ ghost use Rattle.methods.specs.Given.{Given};
 ghost use Rattle.methods.specs.Pass.{under, replay};
 ghost use Rattle.methods.specs.Parts.{if_wanted, in32, stand};
 ghost use Rattle.methods.specs.Schemes.{exp4, epirk4s3, epirk4s3_a, epirk4s3_b, epirk5s3, powi, epirk5p, epirk5p_end, epirk5p1, epirk5p2};
-ghost use Rattle.exp4_epirk.specs.Stages.{exp4·4, exp4·7, epirk4s3·2, epirk4s3·3, epirk5s3·2, epirk5s3·3, epirk5p·1, epirk5p·2};
+ghost use Rattle.exp4_epirk.specs.Stages.{exp4_4, exp4_7, epirk4s3_2, epirk4s3_3, epirk5s3_2, epirk5s3_3, epirk5p_1, epirk5p_2};
 
 use methods::{
     Action, Out, PLACES, Point, Tally, Vector, add, add_term, after, asked, axpy, combine2,
@@ -52,7 +52,7 @@ fn exp4_4(
     u4: Vector,
 ) -> Out
     requires { Given p.n a.now answers.now first }
-    ensures { stand result ≡ in32 (under tally (replay p.n (exp4·4 p a.now k10 k11 k12 u4) count first answers.now)) }
+    ensures { stand result ≡ in32 (under tally (replay p.n (exp4_4 p a.now k10 k11 k12 u4) count first answers.now)) }
 {
     let n = p.n;
     let t = p.time;
@@ -94,7 +94,7 @@ fn exp4_7(
 ) -> Out
     requires given { Given p.n a.now answers.now first }
     requires le_count { 1 ≤ count }
-    ensures { stand result ≡ in32 (under tally (replay p.n (exp4·7 p a.now k12 k20 k21 k22 u7) (count - 1) (first + 1) answers.now)) }
+    ensures { stand result ≡ in32 (under tally (replay p.n (exp4_7 p a.now k12 k20 k21 k22 u7) (count - 1) (first + 1) answers.now)) }
 {
     let n = p.n;
     let t = p.time;
@@ -207,7 +207,7 @@ fn epirk4s3_2(
     q3c: f64,
 ) -> Out
     requires { Given p.n a.now answers.now first }
-    ensures { stand result ≡ in32 (under tally (replay p.n (epirk4s3·2 p a.now u2 u3 c2 c3 r2c r3c q2c q3c) count first answers.now)) }
+    ensures { stand result ≡ in32 (under tally (replay p.n (epirk4s3_2 p a.now u2 u3 c2 c3 r2c r3c q2c q3c) count first answers.now)) }
 {
     let n = p.n;
     let t = p.time;
@@ -241,7 +241,7 @@ fn epirk4s3_3(
 ) -> Out
     requires given { Given p.n a.now answers.now first }
     requires le_count { 1 ≤ count }
-    ensures { stand result ≡ in32 (under tally (replay p.n (epirk4s3·3 p a.now r2 u3 c3 r2c r3c q2c q3c) (count - 1) (first + 1) answers.now)) }
+    ensures { stand result ≡ in32 (under tally (replay p.n (epirk4s3_3 p a.now r2 u3 c3 r2c r3c q2c q3c) (count - 1) (first + 1) answers.now)) }
 {
     let n = p.n;
     let t = p.time;
@@ -294,7 +294,7 @@ fn epirk5s3_2(
     u2: Vector,
 ) -> Out
     requires { Given p.n a.now answers.now first }
-    ensures { stand result ≡ in32 (under tally (replay p.n (epirk5s3·2 p a.now u2) count first answers.now)) }
+    ensures { stand result ≡ in32 (under tally (replay p.n (epirk5s3_2 p a.now u2) count first answers.now)) }
 {
     let n = p.n;
     let t = p.time;
@@ -332,7 +332,7 @@ fn epirk5s3_3(
 ) -> Out
     requires given { Given p.n a.now answers.now first }
     requires le_count { 1 ≤ count }
-    ensures { stand result ≡ in32 (under tally (replay p.n (epirk5s3·3 p a.now r2 u3) (count - 1) (first + 1) answers.now)) }
+    ensures { stand result ≡ in32 (under tally (replay p.n (epirk5s3_3 p a.now r2 u3) (count - 1) (first + 1) answers.now)) }
 {
     let n = p.n;
     let t = p.time;
@@ -500,7 +500,7 @@ fn epirk5p_1(
 ) -> Out
     requires given { Given p.n a.now answers.now first }
     requires le_second_order { (1 ≤ second_order) × (second_order ≤ 4) }
-    ensures { stand result ≡ in32 (under tally (replay p.n (epirk5p·1 p a.now k21 k31 u1
+    ensures { stand result ≡ in32 (under tally (replay p.n (epirk5p_1 p a.now k21 k31 u1
         g11 g21 g32 g33 a22 b2 b31 b32 b33 second_order variant_2) count first answers.now)) }
 {
     let n = p.n;
@@ -544,7 +544,7 @@ fn epirk5p_2(
 ) -> Out
     requires given { Given p.n a.now answers.now first }
     requires le_count { 1 ≤ count }
-    ensures { stand result ≡ in32 (under tally (replay p.n (epirk5p·2 p a.now k31 r1 k2 u2 g21 g33 b2 b31 b32 b33 variant_2) (count - 1) (first + 1) answers.now)) }
+    ensures { stand result ≡ in32 (under tally (replay p.n (epirk5p_2 p a.now k31 r1 k2 u2 g21 g33 b2 b31 b32 b33 variant_2) (count - 1) (first + 1) answers.now)) }
 {
     let n = p.n;
     let t = p.time;

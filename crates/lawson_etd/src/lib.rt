@@ -9,7 +9,7 @@ ghost use Rattle.methods.specs.Given.{Given};
 ghost use Rattle.methods.specs.Pass.{under, replay};
 ghost use Rattle.methods.specs.Parts.{narrowed, in32, stand};
 ghost use Rattle.methods.specs.Schemes.{lawson_euler, norsett_euler, etd2, etdrk2, etdrk3, etdrk4, a52, hoch_ost4};
-ghost use Rattle.lawson_etd.specs.Stages.{etdrk2·2, etdrk3·2, etdrk3·3, etdrk4·2, etdrk4·3, etdrk4·4};
+ghost use Rattle.lawson_etd.specs.Stages.{etdrk2_2, etdrk3_2, etdrk3_3, etdrk4_2, etdrk4_3, etdrk4_4};
 ghost use Rattle.lawson_etd.specs.Stages.{hoch_ost4_2, hoch_ost4_3, hoch_ost4_4, hoch_ost4_5, sum5, a52_of, a54_of, whole, halved};
 
 use methods::{
@@ -81,7 +81,7 @@ fn etdrk2_2(
     u2: Vector,
 ) -> Out
     requires { Given p.n a.now answers.now first }
-    ensures { stand result ≡ in32 (under tally (replay p.n (etdrk2·2 p a.now g0 u2) count first answers.now)) }
+    ensures { stand result ≡ in32 (under tally (replay p.n (etdrk2_2 p a.now g0 u2) count first answers.now)) }
 {
     let n = p.n;
     let t = p.time;
@@ -124,7 +124,7 @@ fn etdrk3_2(
     u2: Vector,
 ) -> Out
     requires { Given p.n a.now answers.now first }
-    ensures { stand result ≡ in32 (under tally (replay p.n (etdrk3·2 p a.now au u2) count first answers.now)) }
+    ensures { stand result ≡ in32 (under tally (replay p.n (etdrk3_2 p a.now au u2) count first answers.now)) }
 {
     let n = p.n;
     let t = p.time;
@@ -165,7 +165,7 @@ fn etdrk3_3(
 ) -> Out
     requires given { Given p.n a.now answers.now first }
     requires le_count { 1 ≤ count }
-    ensures { stand result ≡ in32 (under tally (replay p.n (etdrk3·3 p a.now au f2 u3) (count - 1) (first + 1) answers.now)) }
+    ensures { stand result ≡ in32 (under tally (replay p.n (etdrk3_3 p a.now au f2 u3) (count - 1) (first + 1) answers.now)) }
 {
     let n = p.n;
     let t = p.time;
@@ -214,7 +214,7 @@ fn etdrk4_2(
     u2: Vector,
 ) -> Out
     requires { Given p.n a.now answers.now first }
-    ensures { stand result ≡ in32 (under tally (replay p.n (etdrk4·2 p a.now au u2) count first answers.now)) }
+    ensures { stand result ≡ in32 (under tally (replay p.n (etdrk4_2 p a.now au u2) count first answers.now)) }
 {
     let n = p.n;
     let t = p.time;
@@ -255,7 +255,7 @@ fn etdrk4_3(
 ) -> Out
     requires given { Given p.n a.now answers.now first }
     requires le_count { 1 ≤ count }
-    ensures { stand result ≡ in32 (under tally (replay p.n (etdrk4·3 p a.now au u2 f2 u3) (count - 1) (first + 1) answers.now)) }
+    ensures { stand result ≡ in32 (under tally (replay p.n (etdrk4_3 p a.now au u2 f2 u3) (count - 1) (first + 1) answers.now)) }
 {
     let n = p.n;
     let t = p.time;
@@ -298,7 +298,7 @@ fn etdrk4_4(
 ) -> Out
     requires given { Given p.n a.now answers.now first }
     requires le_count { 2 ≤ count }
-    ensures { stand result ≡ in32 (under tally (replay p.n (etdrk4·4 p a.now au f2 f3 u4) (count - 2) (first + 2) answers.now)) }
+    ensures { stand result ≡ in32 (under tally (replay p.n (etdrk4_4 p a.now au f2 f3 u4) (count - 2) (first + 2) answers.now)) }
 {
     let n = p.n;
     let t = p.time;

@@ -10,7 +10,7 @@ ghost use Rattle.methods.specs.Given.{Given};
 ghost use Rattle.methods.specs.Pass.{under, replay};
 ghost use Rattle.methods.specs.Parts.{in32, stand};
 ghost use Rattle.methods.specs.Schemes.{exprb32, exprb43, exprb53s3};
-ghost use Rattle.rosenbrock.specs.Stages.{exprb32·2, exprb43·2, exprb43·3, exprb53s3·2, exprb53s3·3};
+ghost use Rattle.rosenbrock.specs.Stages.{exprb32_2, exprb43_2, exprb43_3, exprb53s3_2, exprb53s3_3};
 
 use methods::{
     Out, PLACES, Point, Tally, Vector, add, add_term, after, asked, axpy, combine2, ended, joined,
@@ -46,7 +46,7 @@ fn exprb32_2(
     u2: Vector,
 ) -> Out
     requires { Given p.n a.now answers.now first }
-    ensures { stand result ≡ in32 (under tally (replay p.n (exprb32·2 p a.now au w1 u2) count first answers.now)) }
+    ensures { stand result ≡ in32 (under tally (replay p.n (exprb32_2 p a.now au w1 u2) count first answers.now)) }
 {
     let n = p.n;
     let t = p.time;
@@ -109,7 +109,7 @@ fn exprb43_2(
     u2: Vector,
 ) -> Out
     requires { Given p.n a.now answers.now first }
-    ensures { stand result ≡ in32 (under tally (replay p.n (exprb43·2 p a.now au w11 w13 w14 u2) count first answers.now)) }
+    ensures { stand result ≡ in32 (under tally (replay p.n (exprb43_2 p a.now au w11 w13 w14 u2) count first answers.now)) }
 {
     let n = p.n;
     let t = p.time;
@@ -151,7 +151,7 @@ fn exprb43_3(
 ) -> Out
     requires given { Given p.n a.now answers.now first }
     requires le_count { 1 ≤ count }
-    ensures { stand result ≡ in32 (under tally (replay p.n (exprb43·3 p a.now au w11 w13 w14 w23 w24 u3) (count - 1) (first + 1) answers.now)) }
+    ensures { stand result ≡ in32 (under tally (replay p.n (exprb43_3 p a.now au w11 w13 w14 w23 w24 u3) (count - 1) (first + 1) answers.now)) }
 {
     let n = p.n;
     let t = p.time;
@@ -210,7 +210,7 @@ fn exprb53s3_2(
     u2: Vector,
 ) -> Out
     requires { Given p.n a.now answers.now first }
-    ensures { stand result ≡ in32 (under tally (replay p.n (exprb53s3·2 p a.now k3base u2) count first answers.now)) }
+    ensures { stand result ≡ in32 (under tally (replay p.n (exprb53s3_2 p a.now k3base u2) count first answers.now)) }
 {
     let n = p.n;
     let t = p.time;
@@ -243,7 +243,7 @@ fn exprb53s3_3(
 ) -> Out
     requires given { Given p.n a.now answers.now first }
     requires le_count { 1 ≤ count }
-    ensures { stand result ≡ in32 (under tally (replay p.n (exprb53s3·3 p a.now r2 u3) (count - 1) (first + 1) answers.now)) }
+    ensures { stand result ≡ in32 (under tally (replay p.n (exprb53s3_3 p a.now r2 u3) (count - 1) (first + 1) answers.now)) }
 {
     let n = p.n;
     let t = p.time;

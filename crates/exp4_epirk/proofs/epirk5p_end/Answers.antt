@@ -30,9 +30,9 @@ more-s-requires c = c.requires.small
 
 pub phi_action-requires-then-variant_2 : goal.phi_action-requires-then-variant_2
 phi_action-requires-then-variant_2 c = record {
-      sized = c.requires;
-      le_order = order_3;
-    }
+  sized = c.requires;
+  le_order = order_3;
+}
 
 pub more-s-requires-then-variant_2 : goal.more-s-requires-then-variant_2
 more-s-requires-then-variant_2 c = c.requires.small

@@ -20,15 +20,15 @@ add_term-k-requires c =
 
 pub add_term-k-requires-then-held : goal.add_term-k-requires-then-held
 add_term-k-requires-then-held c = record {
-      sized = c.requires;
-      le_order = order_2;
-    }
+  sized = c.requires;
+  le_order = order_2;
+}
 
 pub add_term-k-requires-then-held-2 : goal.add_term-k-requires-then-held-2
 add_term-k-requires-then-held-2 c = record {
-      sized = c.requires;
-      le_order = order_2;
-    }
+  sized = c.requires;
+  le_order = order_2;
+}
 
 pub returns-then-held : goal.returns-then-held
 unfolding zeros numbers etd2
