@@ -95,11 +95,12 @@ ready_few most a h norm rhs jacobians products e = unfold Bounded in subst (Boun
 -- a bare call
 bare_far : (k : ℕ) (o : List Float) (b : Bool) (terms squarings : ℕ) (made : List Float) → (k ≡ 0 → b ≡ true → Few terms squarings)
     → Bounded 0 (unless k (refuse_bare o) (cond b (bare (Filled terms squarings) made) (refuse_bare o 6))).answer
-bare_far k o b terms squarings made h = unless_either k (refuse_bare o) _ (λ r. Bounded 0 r.answer) (λ j. unfold Bounded in tt) (λ z. go b (h z))
+unfolding Bounded
+bare_far k o b terms squarings made h = unless_either k (refuse_bare o) _ (λ r. Bounded 0 r.answer) (λ j. tt) (λ z. go b (h z))
   where
     go : (c : Bool) → (c ≡ true → Few terms squarings) → Bounded 0 (cond c (bare (Filled terms squarings) made) (refuse_bare o 6)).answer
-    go true l = unfold Bounded in l refl
-    go false l = unfold Bounded in tt
+    go true l = l refl
+    go false l = tt
 
 filled_far : (a : Answer) → Bounded 0 a → (terms squarings : ℕ) → a ≡ Filled terms squarings → Few terms squarings
 filled_far a h terms squarings e = unfold Bounded in subst (Bounded 0) e h

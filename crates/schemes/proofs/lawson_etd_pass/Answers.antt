@@ -34,28 +34,28 @@ etd2-requires c = c.requires.given.sized
 
 pub returns-in-0 : goal.returns-in-0
 unfolding pass
-returns-in-0 c = rw c.in-0.keys1 (c.lawson_euler.ensures _ _ _)
+returns-in-0 c = rw c.in-0.is (c.lawson_euler.ensures _ _ _)
 
 pub returns-in-1 : goal.returns-in-1
 unfolding pass
-returns-in-1 c = rw c.in-1.keys2 (c.norsett_euler.ensures _ _ _)
+returns-in-1 c = rw c.in-1.is (c.norsett_euler.ensures _ _ _)
 
 pub returns-in-2 : goal.returns-in-2
 unfolding pass
-returns-in-2 c = rw c.in-2.keys3 c.etdrk2.ensures
+returns-in-2 c = rw c.in-2.is c.etdrk2.ensures
 
 pub returns-in-3 : goal.returns-in-3
 unfolding pass
-returns-in-3 c = rw c.in-3.keys4 c.etdrk3.ensures
+returns-in-3 c = rw c.in-3.is c.etdrk3.ensures
 
 pub returns-in-4 : goal.returns-in-4
 unfolding pass
-returns-in-4 c = rw c.in-4.keys5 c.etdrk4.ensures
+returns-in-4 c = rw c.in-4.is c.etdrk4.ensures
 
 pub returns-in-5 : goal.returns-in-5
 unfolding pass
-returns-in-5 c = rw c.in-5.keys6 c.hoch_ost4.ensures
+returns-in-5 c = rw c.in-5.is c.hoch_ost4.ensures
 
 pub returns-in_default : goal.returns-in_default
 unfolding pass
-returns-in_default c = rw (c.requires.scheme_value (omega (arith, c.in_default.rest))) (c.etd2.ensures _ _ _)
+returns-in_default c = rw (c.requires.scheme_value (omega (arith, c.in_default.in_default-own.rest))) (c.etd2.ensures _ _ _)

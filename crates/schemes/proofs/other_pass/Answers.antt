@@ -47,40 +47,40 @@ exprb43-requires c = c.requires.given
 
 pub returns-in-6 : goal.returns-in-6
 unfolding pass zeros Avoids
-returns-in-6 c = λ g. rw c.in-6.keys1 c.exp4.ensures
+returns-in-6 c = λ g. rw c.in-6.is c.exp4.ensures
 
 pub returns-in-7 : goal.returns-in-7
 unfolding pass zeros Avoids
-returns-in-7 c = λ g. rw c.in-7.keys2 c.epirk4s3_a.ensures
+returns-in-7 c = λ g. rw c.in-7.is c.epirk4s3_a.ensures
 
 pub returns-in-8 : goal.returns-in-8
 unfolding pass zeros Avoids
-returns-in-8 c = λ g. rw c.in-8.keys3 c.epirk4s3_b.ensures
+returns-in-8 c = λ g. rw c.in-8.is c.epirk4s3_b.ensures
 
 pub returns-in-9 : goal.returns-in-9
 unfolding pass zeros Avoids
-returns-in-9 c = λ g. rw c.in-9.keys4 c.epirk5s3.ensures
+returns-in-9 c = λ g. rw c.in-9.is c.epirk5s3.ensures
 
 pub returns-in-10 : goal.returns-in-10
 unfolding pass zeros Avoids
-returns-in-10 c = λ g. rw c.in-10.keys5 c.exprb53s3.ensures
+returns-in-10 c = λ g. rw c.in-10.is c.exprb53s3.ensures
 
 pub returns-in-11 : goal.returns-in-11
 unfolding pass zeros Avoids
-returns-in-11 c = λ g. rw c.in-11.keys6 c.epirk5p1.ensures
+returns-in-11 c = λ g. rw c.in-11.is c.epirk5p1.ensures
 
 pub returns-in-12 : goal.returns-in-12
 unfolding pass zeros Avoids
-returns-in-12 c = λ g. rw c.in-12.keys7 c.epirk5p2.ensures
+returns-in-12 c = λ g. rw c.in-12.is c.epirk5p2.ensures
 
 pub returns-in-14 : goal.returns-in-14
 unfolding pass zeros Avoids
-returns-in-14 c = λ g. rw c.in-14.keys8 c.exprb32.ensures
+returns-in-14 c = λ g. rw c.in-14.is c.exprb32.ensures
 
 pub returns-in-15 : goal.returns-in-15
 unfolding pass zeros Avoids
-returns-in-15 c = λ g. rw c.in-15.keys9 c.exprb43.ensures
+returns-in-15 c = λ g. rw c.in-15.is c.exprb43.ensures
 
 pub returns-in_default : goal.returns-in_default
 unfolding pass zeros Avoids
-returns-in_default c = λ g. no_scheme _ _ _ _ _ _ _ _ _ _ c.requires.le_scheme c.in_default.rest c.unadmitted.ensures c.ended.ensures
+returns-in_default c = λ g. no_scheme _ _ _ _ _ _ _ _ _ _ c.requires.le_scheme c.in_default.in_default-own.rest c.unadmitted.ensures c.ended.ensures

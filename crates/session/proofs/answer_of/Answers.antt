@@ -13,8 +13,8 @@ ready_of-requires c =
 
 pub returns-in-Question : goal.returns-in-Question
 unfolding answer_of
-returns-in-Question c = rw c.kind-1.given.1
+returns-in-Question c = rw c.in-Question.is
 
 pub returns-in-Done : goal.returns-in-Done
 unfolding answer_of
-returns-in-Done c = rw c.enum_told-1.given.1 c.ready_of.ensures
+returns-in-Done c = rw c.in-Done.is c.ready_of.ensures

@@ -1,4 +1,5 @@
 -- `session::attempt_fault` meets its contract. Assumes nothing.
+use Rattle.std.proofs.Common.{not}
 use mathlib.Core.Path.{sym, ap, ◌∙◌}
 use mathlib.Core.Bool.{◌&&◌}
 use lib.Dec.{eqb}
@@ -16,20 +17,20 @@ clear-requires c = λ e. sym c.all_finite-calm.ensures ∙ e
 
 pub returns-then-not-clear-lent : goal.returns-then-not-clear-lent
 unfolding attempt_tests
-returns-then-not-clear-lent c = rw (← c.used_jacobian.ensures) (stops 1 _ (ap (λ b. b && eqb c.args.lent c.args.n) c.clear.ensures) c.if-not-clear-lent.true)
+returns-then-not-clear-lent c = rw (← c.used_jacobian.ensures) (stops 1 _ (ap (λ b. b && eqb c.args.lent c.args.n) c.clear.ensures) (ap not c.if-not-clear-lent.true))
 
 pub returns-then-not-step_ok : goal.returns-then-not-step_ok
 unfolding attempt_tests
-returns-then-not-step_ok c = rw (← c.used_jacobian.ensures) (holds_on 1 _ (ap (λ b. b && eqb c.args.lent c.args.n) c.clear.ensures) c.if-not-clear-lent.false (stops 5 _ c.step_ok.ensures c.if-not-step_ok.true))
+returns-then-not-step_ok c = rw (← c.used_jacobian.ensures) (holds_on 1 _ (ap (λ b. b && eqb c.args.lent c.args.n) c.clear.ensures) (ap not c.if-not-clear-lent.false) (stops 5 _ c.step_ok.ensures (ap not c.if-not-step_ok.true)))
 
 pub returns-then-not-calm : goal.returns-then-not-calm
 unfolding attempt_tests
 returns-then-not-calm c =
-    rw (← c.used_jacobian.ensures) (holds_on 1 _ (ap (λ b. b && eqb c.args.lent c.args.n) c.clear.ensures) c.if-not-clear-lent.false
-    (holds_on 5 _ c.step_ok.ensures c.if-not-step_ok.false (stops 3 _ c.all_finite-calm.ensures c.if-not-calm.true)))
+    rw (← c.used_jacobian.ensures) (holds_on 1 _ (ap (λ b. b && eqb c.args.lent c.args.n) c.clear.ensures) (ap not c.if-not-clear-lent.false)
+    (holds_on 5 _ c.step_ok.ensures (ap not c.if-not-step_ok.false) (stops 3 _ c.all_finite-calm.ensures (ap not c.if-not-calm.true))))
 
 pub returns : goal.returns
 unfolding attempt_tests
 returns c =
-    rw (← c.used_jacobian.ensures) (holds_on 1 _ (ap (λ b. b && eqb c.args.lent c.args.n) c.clear.ensures) c.if-not-clear-lent.false
-    (holds_on 5 _ c.step_ok.ensures c.if-not-step_ok.false (holds_on 3 _ c.all_finite-calm.ensures c.if-not-calm.false all_hold)))
+    rw (← c.used_jacobian.ensures) (holds_on 1 _ (ap (λ b. b && eqb c.args.lent c.args.n) c.clear.ensures) (ap not c.if-not-clear-lent.false)
+    (holds_on 5 _ c.step_ok.ensures (ap not c.if-not-step_ok.false) (holds_on 3 _ c.all_finite-calm.ensures (ap not c.if-not-calm.false) all_hold)))

@@ -4,8 +4,8 @@ use Rattle.session.proofs.attempt_of.Goals as goal
 
 pub returns-in-Given : goal.returns-in-Given
 unfolding attempt_of
-returns-in-Given c = rw c.enum_told-1.given.1
+returns-in-Given c = rw c.in-Given.is
 
 pub returns-in-Difference : goal.returns-in-Difference
 unfolding attempt_of
-returns-in-Difference c = rw c.enum_told-in-Difference-1.given.1
+returns-in-Difference c = rw c.in-Difference.is

@@ -4,8 +4,8 @@ use Rattle.session.proofs.is_held.Goals as goal
 
 pub returns-in-Missing : goal.returns-in-Missing
 unfolding is_held
-returns-in-Missing c = rw c.enum_told-1.given.1
+returns-in-Missing c = rw c.in-Missing.is
 
 pub returns-in-Held : goal.returns-in-Held
 unfolding is_held
-returns-in-Held c = rw c.enum_told-in-Held-1.given.1
+returns-in-Held c = rw c.in-Held.is

@@ -1,4 +1,5 @@
 -- `session::largest_fault` meets its contract. Assumes nothing.
+use Rattle.std.proofs.Common.{ap, not}
 use mathlib.Core.Path.{refl}
 use Rattle.session.specs.Calls.{largest_tests}
 use Rattle.session.proofs.Tests.{stops, holds_on, all_hold}
@@ -6,8 +7,8 @@ use Rattle.session.proofs.largest_fault.Goals as goal
 
 pub returns-then-not-largest : goal.returns-then-not-largest
 unfolding largest_tests
-returns-then-not-largest c = stops 5 _ refl c.if-not-largest.true
+returns-then-not-largest c = stops 5 _ refl (ap not c.if-not-largest.true)
 
 pub returns : goal.returns
 unfolding largest_tests
-returns c = holds_on 5 _ refl c.if-not-largest.false all_hold
+returns c = holds_on 5 _ refl (ap not c.if-not-largest.false) all_hold

@@ -20,13 +20,13 @@ pub put-requires : goal.put-requires
 put-requires c = simp length-set (omega (arith, c.rest-next.auto.figures, c.requires.figures_len, c.requires.state_len))
 
 pub put-requires-2 : goal.put-requires-2
-put-requires-2 c = omega (arith, c.put.auto.out, c.rest-next.auto.figures, c.requires.figures_len, c.requires.state_len, length-set c.rest-next.new.1.0 0 c.args.time)
+put-requires-2 c = omega (arith, c.put.auto.out, c.rest-next.auto.figures, c.requires.figures_len, c.requires.state_len, length-set c.rest-next.new.figures 0 c.args.time)
 
 pub put-requires-then-k-eq-ETD2 : goal.put-requires-then-k-eq-ETD2
-put-requires-then-k-eq-ETD2 c = omega (arith, c.put-2.auto.out, c.put.auto.out, c.rest-next.auto.figures, c.requires.figures_len, c.requires.state_len, length-set c.rest-next.new.1.0 0 c.args.time)
+put-requires-then-k-eq-ETD2 c = omega (arith, c.put-2.auto.out, c.put.auto.out, c.rest-next.auto.figures, c.requires.figures_len, c.requires.state_len, length-set c.rest-next.new.figures 0 c.args.time)
 
 pub shape_of-figures-then-k-eq-ETD2 : goal.shape_of-figures-then-k-eq-ETD2
-shape_of-figures-then-k-eq-ETD2 c = omega (arith, c.put-then-k-eq-ETD2.auto.out, c.put-2.auto.out, c.put.auto.out, c.rest-next.auto.figures, length-set c.rest-next.new.1.0 0 c.args.time)
+shape_of-figures-then-k-eq-ETD2 c = omega (arith, c.put-then-k-eq-ETD2.auto.out, c.put-2.auto.out, c.put.auto.out, c.rest-next.auto.figures, length-set c.rest-next.new.figures 0 c.args.time)
 
 pub returns-then-k-eq-ETD2 : goal.returns-then-k-eq-ETD2
 returns-then-k-eq-ETD2 c =
@@ -34,7 +34,7 @@ returns-then-k-eq-ETD2 c =
     (unfold session_of in eq-eqb _ _ c.if-k-eq-ETD2.true) c.put.ensures c.put-2.ensures c.put-then-k-eq-ETD2.ensures
 
 pub shape_of-figures : goal.shape_of-figures
-shape_of-figures c = omega (arith, c.put-2.auto.out, c.put.auto.out, c.rest-next.auto.figures, length-set c.rest-next.new.1.0 0 c.args.time)
+shape_of-figures c = omega (arith, c.put-2.auto.out, c.put.auto.out, c.rest-next.auto.figures, length-set c.rest-next.new.figures 0 c.args.time)
 
 pub returns : goal.returns
 returns c =

@@ -1,4 +1,6 @@
 -- `session::norm_fault` meets its contract. Assumes nothing.
+use Rattle.std.proofs.Common.{not}
+use Rattle.std.proofs.Common.{ap}
 use mathlib.Core.Path.{sym, ◌∙◌}
 use mathlib.Core.Bool.{◌&&◌}
 use lib.Dec.{leb}
@@ -31,14 +33,14 @@ pub returns-then-not-n-clear : goal.returns-then-not-n-clear
 unfolding norm_tests size_ok fault
 returns-then-not-n-clear c =
     let n = c.args.n in
-    let first = not-true (leb 1 n && leb n places && c.clear.result && c.clear-2.result && c.clear-3.result && c.clear-4.result) c.if-not-n-clear.true in
+    let first = not-true (leb 1 n && leb n places && c.clear.result && c.clear-2.result && c.clear-3.result && c.clear-4.result) (ap not c.if-not-n-clear.true) in
     rw (← c.clear.ensures, ← c.clear-2.ensures, ← c.clear-3.ensures, ← c.clear-4.ensures, first)
 
 pub tolerances_ok-requires : goal.tolerances_ok-requires
 unfolding norm_tests size_ok fault
 tolerances_ok-requires c =
     let n = c.args.n in
-    let first = not-false (leb 1 n && leb n places && c.clear.result && c.clear-2.result && c.clear-3.result && c.clear-4.result) c.if-not-n-clear.false in
+    let first = not-false (leb 1 n && leb n places && c.clear.result && c.clear-2.result && c.clear-3.result && c.clear-4.result) (ap not c.if-not-n-clear.false) in
     let two = both_true (leb 1 n && leb n places && c.clear.result && c.clear-2.result && c.clear-3.result) _ first in
     let three = both_true (leb 1 n && leb n places && c.clear.result && c.clear-2.result) _ two.0 in
     let four = both_true (leb 1 n && leb n places && c.clear.result) _ three.0 in
@@ -48,7 +50,7 @@ pub returns-then-calm : goal.returns-then-calm
 unfolding norm_tests size_ok fault
 returns-then-calm c =
     let n = c.args.n in
-    let first = not-false (leb 1 n && leb n places && c.clear.result && c.clear-2.result && c.clear-3.result && c.clear-4.result) c.if-not-n-clear.false in
+    let first = not-false (leb 1 n && leb n places && c.clear.result && c.clear-2.result && c.clear-3.result && c.clear-4.result) (ap not c.if-not-n-clear.false) in
     rw (
       ← c.clear.ensures,
       ← c.clear-2.ensures,
@@ -67,7 +69,7 @@ pub returns-then-tolerances_ok : goal.returns-then-tolerances_ok
 unfolding norm_tests size_ok fault
 returns-then-tolerances_ok c =
     let n = c.args.n in
-    let first = not-false (leb 1 n && leb n places && c.clear.result && c.clear-2.result && c.clear-3.result && c.clear-4.result) c.if-not-n-clear.false in
+    let first = not-false (leb 1 n && leb n places && c.clear.result && c.clear-2.result && c.clear-3.result && c.clear-4.result) (ap not c.if-not-n-clear.false) in
     rw (
       ← c.clear.ensures,
       ← c.clear-2.ensures,
@@ -86,5 +88,5 @@ pub returns : goal.returns
 unfolding norm_tests size_ok fault
 returns c =
     let n = c.args.n in
-    let first = not-false (leb 1 n && leb n places && c.clear.result && c.clear-2.result && c.clear-3.result && c.clear-4.result) c.if-not-n-clear.false in
+    let first = not-false (leb 1 n && leb n places && c.clear.result && c.clear-2.result && c.clear-3.result && c.clear-4.result) (ap not c.if-not-n-clear.false) in
     rw (← c.clear.ensures, ← c.clear-2.ensures, ← c.clear-3.ensures, ← c.clear-4.ensures, first, ← c.tolerances_ok.ensures, c.if-tolerances_ok.false)

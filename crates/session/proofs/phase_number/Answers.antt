@@ -4,12 +4,12 @@ use Rattle.session.proofs.phase_number.Goals as goal
 
 pub returns-in-Rest : goal.returns-in-Rest
 unfolding phase_number
-returns-in-Rest c = rw c.enum_told-1.given.1
+returns-in-Rest c = rw c.in-Rest.is
 
 pub returns-in-Asking : goal.returns-in-Asking
 unfolding phase_number
-returns-in-Asking c = rw c.enum_told-in-Asking-1.given.1
+returns-in-Asking c = rw c.in-Asking.is
 
 pub returns-in-Waiting : goal.returns-in-Waiting
 unfolding phase_number
-returns-in-Waiting c = rw c.enum_told-in-Waiting-1.given.1
+returns-in-Waiting c = rw c.in-Waiting.is

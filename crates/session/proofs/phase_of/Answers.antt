@@ -9,12 +9,12 @@ wanted-requires c = c.requires
 
 pub returns-in-None : goal.returns-in-None
 unfolding phase_of phase_at session_of
-returns-in-None c = λ figures. rw c.enum_told-1.given.1
+returns-in-None c = λ figures. rw c.in-None.is
 
 pub returns-in-Supplied : goal.returns-in-Supplied
 unfolding phase_of phase_at session_of
-returns-in-Supplied c = λ figures. rw (← c.wanted.ensures.0, c.enum_told-in-Supplied-1.given.1) c.phase_with.ensures
+returns-in-Supplied c = λ figures. rw (← c.wanted.ensures.0, c.in-Supplied.is) c.phase_with.ensures
 
 pub returns-in-Differenced : goal.returns-in-Differenced
 unfolding phase_of phase_at session_of
-returns-in-Differenced c = λ figures. rw (← c.wanted.ensures.0, c.enum_told-in-Differenced-1.given.1) c.phase_with-in-Differenced.ensures
+returns-in-Differenced c = λ figures. rw (← c.wanted.ensures.0, c.in-Differenced.is) c.phase_with-in-Differenced.ensures

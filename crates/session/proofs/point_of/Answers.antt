@@ -26,4 +26,4 @@ bounds-figures-1 c = omega (arith, c.requires)
 
 pub returns : goal.returns
 unfolding point_of session_of
-returns c = rw (c.vector_at-state.ensures, c.vector_at-f0.ensures, c.vector_at-previous.ensures, c.is_held_lem.ensures)
+returns c = rw (c.vector_at-state.ensures, c.vector_at-f0.ensures, c.vector_at-previous.ensures, c.is_held-held.ensures)

@@ -10,7 +10,7 @@ unfolding progress progress_of session_of
 supplied-requires c =
     record {
       figures_len = c.requires;
-      count_bound = supplied_few _ c.requires.1 c.enum_told-in-Supplied-1.given.1;
+      count_bound = supplied_few _ c.requires.1 c.in-Supplied.is;
     }
 
 pub differencing-requires : goal.differencing-requires
@@ -18,17 +18,17 @@ unfolding progress progress_of session_of
 differencing-requires c =
     record {
       figures_len = c.requires;
-      count_bound = differenced_few _ c.requires.1 c.enum_told-in-Differenced-1.given.1;
+      count_bound = differenced_few _ c.requires.1 c.in-Differenced.is;
     }
 
 pub returns-in-None : goal.returns-in-None
 unfolding progress progress_of session_of
-returns-in-None c = c.not_allowed.ensures ∙ ap (λ a. progress_of a (session_of c.args.k c.args.figures.now)) (sym c.enum_told-1.given.1)
+returns-in-None c = c.not_allowed.ensures ∙ ap (λ a. progress_of a (session_of c.args.k c.args.figures.now)) (sym c.in-None.is)
 
 pub returns-in-Supplied : goal.returns-in-Supplied
 unfolding progress progress_of session_of
-returns-in-Supplied c = c.supplied.ensures ∙ ap (λ a. progress_of a (session_of c.args.k c.args.figures.now)) (sym c.enum_told-in-Supplied-1.given.1)
+returns-in-Supplied c = c.supplied.ensures ∙ ap (λ a. progress_of a (session_of c.args.k c.args.figures.now)) (sym c.in-Supplied.is)
 
 pub returns-in-Differenced : goal.returns-in-Differenced
 unfolding progress progress_of session_of
-returns-in-Differenced c = c.differencing.ensures ∙ ap (λ a. progress_of a (session_of c.args.k c.args.figures.now)) (sym c.enum_told-in-Differenced-1.given.1)
+returns-in-Differenced c = c.differencing.ensures ∙ ap (λ a. progress_of a (session_of c.args.k c.args.figures.now)) (sym c.in-Differenced.is)

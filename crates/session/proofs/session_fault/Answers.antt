@@ -1,4 +1,6 @@
 -- `session::session_fault` meets its contract. Assumes nothing.
+use Rattle.std.proofs.Common.{not}
+use Rattle.std.proofs.Common.{ap}
 use mathlib.Core.Path.{sym, ◌∙◌}
 use Prim.Native.Nat.{◌≤◌}
 use native.Mathlib.Omega.{arith}
@@ -25,19 +27,19 @@ good1-requires c =
 
 pub returns-then-not-good1 : goal.returns-then-not-good1
 unfolding session_tests
-returns-then-not-good1 c = stops 1 _ c.good1.ensures c.if-not-good1.true
+returns-then-not-good1 c = stops 1 _ c.good1.ensures (ap not c.if-not-good1.true)
 
 pub good2-requires : goal.good2-requires
 unfolding session_tests
-good2-requires c = unfold session_of in (good1_size _ (sym c.good1.ensures ∙ not-false c.good1.result c.if-not-good1.false)).1
+good2-requires c = unfold session_of in (good1_size _ (sym c.good1.ensures ∙ not-false c.good1.result (ap not c.if-not-good1.false))).1
 
 pub returns-then-not-good2 : goal.returns-then-not-good2
 unfolding session_tests
-returns-then-not-good2 c = holds_on 1 _ c.good1.ensures c.if-not-good1.false (stops 2 _ (c.good2.ensures _) c.if-not-good2.true)
+returns-then-not-good2 c = holds_on 1 _ c.good1.ensures (ap not c.if-not-good1.false) (stops 2 _ (c.good2.ensures _) (ap not c.if-not-good2.true))
 
 pub good7-in_phase-requires : goal.good7-in_phase-requires
 unfolding session_tests
-good7-in_phase-requires c = unfold session_of in (good1_size _ (sym c.good1.ensures ∙ not-false c.good1.result c.if-not-good1.false)).1
+good7-in_phase-requires c = unfold session_of in (good1_size _ (sym c.good1.ensures ∙ not-false c.good1.result (ap not c.if-not-good1.false))).1
 
 pub bounds-figures-2 : goal.bounds-figures-2
 unfolding session_tests
@@ -50,7 +52,7 @@ slice_bounds-tolerances_ok-end c = omega (arith, c.requires)
 pub tolerances_ok-tolerances-requires : goal.tolerances_ok-tolerances-requires
 unfolding session_tests
 tolerances_ok-tolerances-requires c =
-    let small : c.args.k.n ≤ places = unfold session_of in (good1_size _ (sym c.good1.ensures ∙ not-false c.good1.result c.if-not-good1.false)).1 in
+    let small : c.args.k.n ≤ places = unfold session_of in (good1_size _ (sym c.good1.ensures ∙ not-false c.good1.result (ap not c.if-not-good1.false))).1 in
     (small, slice_long c.args.figures.now absolute_at places (omega (arith, c.requires)))
 
 pub bounds-figures-1 : goal.bounds-figures-1
@@ -64,43 +66,43 @@ bounds-figures-0 c = omega (arith, c.requires)
 pub returns-then-not-in_phase : goal.returns-then-not-in_phase
 unfolding session_tests
 returns-then-not-in_phase c =
-    holds_on 1 _ c.good1.ensures c.if-not-good1.false
-    (holds_on 2 _ (c.good2.ensures _) c.if-not-good2.false
-    (stops 7 _ (c.good7-in_phase.ensures _) c.if-not-in_phase.true))
+    holds_on 1 _ c.good1.ensures (ap not c.if-not-good1.false)
+    (holds_on 2 _ (c.good2.ensures _) (ap not c.if-not-good2.false)
+    (stops 7 _ (c.good7-in_phase.ensures _) (ap not c.if-not-in_phase.true)))
 
 pub returns-then-not-tolerances : goal.returns-then-not-tolerances
 unfolding session_tests
 returns-then-not-tolerances c =
-    holds_on 1 _ c.good1.ensures c.if-not-good1.false
-    (holds_on 2 _ (c.good2.ensures _) c.if-not-good2.false
-    (holds_on 7 _ (c.good7-in_phase.ensures _) c.if-not-in_phase.false
-    (stops 4 _ (run_tolerances _ _ c.requires c.tolerances_ok-tolerances.ensures) c.if-not-tolerances.true)))
+    holds_on 1 _ c.good1.ensures (ap not c.if-not-good1.false)
+    (holds_on 2 _ (c.good2.ensures _) (ap not c.if-not-good2.false)
+    (holds_on 7 _ (c.good7-in_phase.ensures _) (ap not c.if-not-in_phase.false)
+    (stops 4 _ (run_tolerances _ _ c.requires c.tolerances_ok-tolerances.ensures) (ap not c.if-not-tolerances.true))))
 
 pub returns-then-not-step : goal.returns-then-not-step
 unfolding session_tests
 returns-then-not-step c =
-    holds_on 1 _ c.good1.ensures c.if-not-good1.false
-    (holds_on 2 _ (c.good2.ensures _) c.if-not-good2.false
-    (holds_on 7 _ (c.good7-in_phase.ensures _) c.if-not-in_phase.false
-    (holds_on 4 _ (run_tolerances _ _ c.requires c.tolerances_ok-tolerances.ensures) c.if-not-tolerances.false
-    (stops 5 _ (attempt_step _ _ c.good5-step.ensures) c.if-not-step.true))))
+    holds_on 1 _ c.good1.ensures (ap not c.if-not-good1.false)
+    (holds_on 2 _ (c.good2.ensures _) (ap not c.if-not-good2.false)
+    (holds_on 7 _ (c.good7-in_phase.ensures _) (ap not c.if-not-in_phase.false)
+    (holds_on 4 _ (run_tolerances _ _ c.requires c.tolerances_ok-tolerances.ensures) (ap not c.if-not-tolerances.false)
+    (stops 5 _ (attempt_step _ _ c.good5-step.ensures) (ap not c.if-not-step.true)))))
 
 pub returns-then-not-numbers : goal.returns-then-not-numbers
 unfolding session_tests
 returns-then-not-numbers c =
-    holds_on 1 _ c.good1.ensures c.if-not-good1.false
-    (holds_on 2 _ (c.good2.ensures _) c.if-not-good2.false
-    (holds_on 7 _ (c.good7-in_phase.ensures _) c.if-not-in_phase.false
-    (holds_on 4 _ (run_tolerances _ _ c.requires c.tolerances_ok-tolerances.ensures) c.if-not-tolerances.false
-    (holds_on 5 _ (attempt_step _ _ c.good5-step.ensures) c.if-not-step.false
-    (stops 3 _ (time_then _ _ c.finite.ensures (c.arrays_finite-calm.ensures _)) c.if-not-numbers.true)))))
+    holds_on 1 _ c.good1.ensures (ap not c.if-not-good1.false)
+    (holds_on 2 _ (c.good2.ensures _) (ap not c.if-not-good2.false)
+    (holds_on 7 _ (c.good7-in_phase.ensures _) (ap not c.if-not-in_phase.false)
+    (holds_on 4 _ (run_tolerances _ _ c.requires c.tolerances_ok-tolerances.ensures) (ap not c.if-not-tolerances.false)
+    (holds_on 5 _ (attempt_step _ _ c.good5-step.ensures) (ap not c.if-not-step.false)
+    (stops 3 _ (time_then _ _ c.finite.ensures (c.arrays_finite-calm.ensures _)) (ap not c.if-not-numbers.true))))))
 
 pub returns : goal.returns
 unfolding session_tests
 returns c =
-    holds_on 1 _ c.good1.ensures c.if-not-good1.false
-    (holds_on 2 _ (c.good2.ensures _) c.if-not-good2.false
-    (holds_on 7 _ (c.good7-in_phase.ensures _) c.if-not-in_phase.false
-    (holds_on 4 _ (run_tolerances _ _ c.requires c.tolerances_ok-tolerances.ensures) c.if-not-tolerances.false
-    (holds_on 5 _ (attempt_step _ _ c.good5-step.ensures) c.if-not-step.false
-    (holds_on 3 _ (time_then _ _ c.finite.ensures (c.arrays_finite-calm.ensures _)) c.if-not-numbers.false all_hold)))))
+    holds_on 1 _ c.good1.ensures (ap not c.if-not-good1.false)
+    (holds_on 2 _ (c.good2.ensures _) (ap not c.if-not-good2.false)
+    (holds_on 7 _ (c.good7-in_phase.ensures _) (ap not c.if-not-in_phase.false)
+    (holds_on 4 _ (run_tolerances _ _ c.requires c.tolerances_ok-tolerances.ensures) (ap not c.if-not-tolerances.false)
+    (holds_on 5 _ (attempt_step _ _ c.good5-step.ensures) (ap not c.if-not-step.false)
+    (holds_on 3 _ (time_then _ _ c.finite.ensures (c.arrays_finite-calm.ensures _)) (ap not c.if-not-numbers.false) all_hold)))))

@@ -16,10 +16,10 @@ arrive-requires c =
     }
 
 pub returns-in-Done : goal.returns-in-Done
-returns-in-Done c = settle_done _ _ c.run_pass-w.result _ c.run_pass-w.ensures _ c.if-w.true c.enum_told-1.given.1 c.arrive.ensures
+returns-in-Done c = settle_done _ _ c.run_pass-w.result _ c.run_pass-w.ensures _ c.if-w.true c.in-Done.is c.arrive.ensures
 
 pub returns-then-w : goal.returns-then-w
-returns-then-w c = settle_ask _ _ c.run_pass-w.result _ c.run_pass-w.ensures _ _ (ap (λ l. told_by l c.args.figures.now) c.refused.ensures) c.if-w.true c.enum_told-in_default-1.given.1
+returns-then-w c = settle_ask _ _ c.run_pass-w.result _ c.run_pass-w.ensures _ _ (ap (λ l. told_by l c.args.figures.now) c.refused.ensures) c.if-w.true c.in_default.is
 
 pub returns : goal.returns
 returns c = settle_bad _ _ c.run_pass-w.result _ c.run_pass-w.ensures _ (ap (λ l. told_by l c.args.figures.now) c.refused-2.ensures) c.if-w.false

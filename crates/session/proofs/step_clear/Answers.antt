@@ -4,12 +4,12 @@ use Rattle.session.proofs.step_clear.Goals as goal
 
 pub returns-in-None : goal.returns-in-None
 unfolding step_clear
-returns-in-None c = rw (c.enum_told-1.given.1, c.plus_zero.ensures)
+returns-in-None c = rw (c.in-None.is, c.plus_zero.ensures)
 
 pub returns-in-Supplied : goal.returns-in-Supplied
 unfolding step_clear
-returns-in-Supplied c = rw c.enum_told-in-Supplied-1.given.1
+returns-in-Supplied c = rw c.in-Supplied.is
 
 pub returns-in-Differenced : goal.returns-in-Differenced
 unfolding step_clear
-returns-in-Differenced c = rw c.enum_told-in-Differenced-1.given.1
+returns-in-Differenced c = rw c.in-Differenced.is

@@ -10,12 +10,12 @@ overflow_mul-result c = omega (arith, mul-le-mul c.requires c.requires)
 
 pub returns-in-None : goal.returns-in-None
 unfolding used_jacobian
-returns-in-None c = rw c.enum_told-1.given.1
+returns-in-None c = rw c.in-None.is
 
 pub returns-in-Supplied : goal.returns-in-Supplied
 unfolding used_jacobian
-returns-in-Supplied c = rw c.enum_told-in-Supplied-1.given.1
+returns-in-Supplied c = rw c.in-Supplied.is
 
 pub returns-in-Differenced : goal.returns-in-Differenced
 unfolding used_jacobian
-returns-in-Differenced c = rw c.enum_told-in-Differenced-1.given.1
+returns-in-Differenced c = rw c.in-Differenced.is

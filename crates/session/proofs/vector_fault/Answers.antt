@@ -1,4 +1,5 @@
 -- `session::vector_fault` meets its contract. Assumes nothing.
+use Rattle.std.proofs.Common.{not}
 use mathlib.Core.Path.{sym, ap, ◌∙◌}
 use mathlib.Core.Bool.{◌&&◌}
 use Rattle.session.specs.Calls.{vector_tests}
@@ -11,12 +12,12 @@ clear-requires c = λ e. sym c.all_finite-calm.ensures ∙ e
 
 pub returns-then-not-clear-lent : goal.returns-then-not-clear-lent
 unfolding vector_tests
-returns-then-not-clear-lent c = stops 1 _ (ap (λ b. b && c.args.lent) c.clear.ensures) c.if-not-clear-lent.true
+returns-then-not-clear-lent c = stops 1 _ (ap (λ b. b && c.args.lent) c.clear.ensures) (ap not c.if-not-clear-lent.true)
 
 pub returns-then-not-calm : goal.returns-then-not-calm
 unfolding vector_tests
-returns-then-not-calm c = holds_on 1 _ (ap (λ b. b && c.args.lent) c.clear.ensures) c.if-not-clear-lent.false (stops 3 _ c.all_finite-calm.ensures c.if-not-calm.true)
+returns-then-not-calm c = holds_on 1 _ (ap (λ b. b && c.args.lent) c.clear.ensures) (ap not c.if-not-clear-lent.false) (stops 3 _ c.all_finite-calm.ensures (ap not c.if-not-calm.true))
 
 pub returns : goal.returns
 unfolding vector_tests
-returns c = holds_on 1 _ (ap (λ b. b && c.args.lent) c.clear.ensures) c.if-not-clear-lent.false (holds_on 3 _ c.all_finite-calm.ensures c.if-not-calm.false all_hold)
+returns c = holds_on 1 _ (ap (λ b. b && c.args.lent) c.clear.ensures) (ap not c.if-not-clear-lent.false) (holds_on 3 _ c.all_finite-calm.ensures (ap not c.if-not-calm.false) all_hold)

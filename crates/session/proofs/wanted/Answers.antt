@@ -9,12 +9,12 @@ overflow_add-result c = omega (arith, c.questions-in-Differenced.ensures.1)
 
 pub returns-in-None : goal.returns-in-None
 unfolding wanted
-returns-in-None c = (rw c.enum_told-1.given.1, omega arith)
+returns-in-None c = (rw c.in-None.is, omega arith)
 
 pub returns-in-Supplied : goal.returns-in-Supplied
 unfolding wanted
-returns-in-Supplied c = (rw c.enum_told-in-Supplied-1.given.1 c.questions.ensures.0, omega (arith, c.questions.ensures.1))
+returns-in-Supplied c = (rw c.in-Supplied.is c.questions.ensures.0, omega (arith, c.questions.ensures.1))
 
 pub returns-in-Differenced : goal.returns-in-Differenced
 unfolding wanted
-returns-in-Differenced c = (rw (c.enum_told-in-Differenced-1.given.1, c.questions-in-Differenced.ensures.0), omega (arith, c.questions-in-Differenced.ensures.1))
+returns-in-Differenced c = (rw (c.in-Differenced.is, c.questions-in-Differenced.ensures.0), omega (arith, c.questions-in-Differenced.ensures.1))

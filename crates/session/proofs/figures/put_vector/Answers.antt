@@ -6,4 +6,4 @@ use Rattle.loops.specs.Loop.{stores, ◌!◌}
 use Rattle.session.proofs.figures.put_vector.Goals as goal
 
 pub returns : goal.returns
-returns c = c.put.ensures ∙ ap (λ (n : ℕ). stores (λ i _. c.args.t1 ! i) c.args.at n c.args.out.now) (search rules)
+returns c = c.put.ensures ∙ ap (λ (n : ℕ). stores (λ i _. c.args.x ! i) c.args.at n c.args.out.now) (search rules)
