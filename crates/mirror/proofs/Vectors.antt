@@ -123,7 +123,7 @@ module _ {n : ℕ} {σ : ℕ → Bool} where
   axpy_all_m : {x x' : List Float} {s s' : List (Float × List Float)} → Vecs n σ x x' → Terms n σ s s' → Vecs n σ (axpy_all n x s) (axpy_all n x' s')
   unfolding axpy_all
   axpy_all_m X no_terms = X
-  axpy_all_m X (one_term c Y S) = axpy_all_m (axpy_m c X Y) S
+  axpy_all_m {x = x} {x' = x'} X (one_term {x = x''} {x' = x'''} {s = s} {s' = s'} c Y S) = axpy_all_m {x = axpy n x c x''} {x' = axpy n x' c x'''} (axpy_m c X Y) S
 
   pub combine_m : {s s' : List (Float × List Float)} → Terms n σ s s' → Vecs n σ (combine n s) (combine n s')
   unfolding combine

@@ -4,12 +4,12 @@ use Rattle.image.proofs.attempt_number.Goals as goal
 
 pub returns-in-None : goal.returns-in-None
 unfolding attempt_number
-returns-in-None c = rw c.enum_told-1.given.1
+returns-in-None c = rw c.in-None.is
 
 pub returns-in-Supplied : goal.returns-in-Supplied
 unfolding attempt_number
-returns-in-Supplied c = rw c.enum_told-in-Supplied-1.given.1
+returns-in-Supplied c = rw c.in-Supplied.is
 
 pub returns-in-Differenced : goal.returns-in-Differenced
 unfolding attempt_number
-returns-in-Differenced c = rw c.enum_told-in-Differenced-1.given.1
+returns-in-Differenced c = rw c.in-Differenced.is

@@ -4,8 +4,8 @@ use Rattle.image.proofs.history_number.Goals as goal
 
 pub returns-in-Missing : goal.returns-in-Missing
 unfolding history_number
-returns-in-Missing c = rw c.enum_told-1.given.1
+returns-in-Missing c = rw c.in-Missing.is
 
 pub returns-in-Held : goal.returns-in-Held
 unfolding history_number
-returns-in-Held c = rw c.enum_told-in-Held-1.given.1
+returns-in-Held c = rw c.in-Held.is

@@ -1,5 +1,7 @@
 -- `library::say` meets its contract. Assumes nothing.
 use borrow.Author.Rules.{rules}
+use Rattle.std.proofs.Common.{◌≡◌, length, sym, subst}
+use Rattle.session.specs.Values.{Values}
 use lib.Ieee.{nan}
 use Rattle.loops.specs.Loop.{tab, from}
 use Rattle.image.specs.Image.{fields}
@@ -21,7 +23,7 @@ unfolding is_refused tab from
 returns c =
     let reply = c.reply_of-r.ensures in (
       record {
-        words = rw (← reply) (said_words c.args.words.now (fields c.reply_of-r.result) c.requires.words (rw reply (counts_three _)));
+        words = rw (← reply) (said_words c.args.words.now (fields c.reply_of-r.result) c.requires.words (subst (λ (v : Values). length v.counts ≡ 3) (sym reply) (counts_three _)));
         told = rw (← reply, spelt nan 1 c.args.told.now c.requires.told);
       },
       rw (← reply),

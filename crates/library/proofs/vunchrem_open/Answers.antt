@@ -26,7 +26,7 @@ returns-then-four-lent c =
       lent_open_lem a.figures.now
           (right_five (length a.figures.now) (length a.absolute.now) (length a.state.now) (length a.derivative.now) (length a.previous.now) FIGURES VECTOR
           (tested c.four.result _ c.lent.ensures c.if-four-lent.true).figures long.first long.second long.third long.fourth)
-          _ (rw (c.scheme_of.ensures, c.history_of.ensures) at c.before.before.before.before.before.before.before.before.before.before.before.before.before.before.«open».ensures) c.put_numbers.ensures c.say.ensures.0,
+          _ (rw (c.scheme_of.ensures, c.history_of.ensures) at c.open-left.ensures) c.put_numbers.ensures c.say.ensures.0,
     )
 
 pub returns : goal.returns

@@ -12,7 +12,7 @@ pub returns-then-hearing : goal.returns-then-hearing
 unfolding Crossing
 returns-then-hearing c =
     rw (← c.hearing.ensures, c.if-hearing.true, ← c.phi_action-answer.ensures)
-        (refl, record { c.before.before.before.before = c.say.ensures.0; out = refl })
+    (refl, record { said = c.say.ensures.0; out = refl })
 
 pub returns : goal.returns
 unfolding Crossing

@@ -1,0 +1,8 @@
+-- `wire::read_u16` meets its contract. Assumes nothing.
+use Rattle.std.proofs.Common.{arith}
+use Rattle.wire.specs.Wire.{word16}
+use Rattle.wire.proofs.read_u16.Goals as goal
+
+pub returns : goal.returns
+unfolding word16
+returns c = omega arith
