@@ -7,6 +7,7 @@ ghost use Rattle.image.specs.Image.{NUMBERS};
 ghost use Rattle.session.specs.Figures.{FIGURES};
 ghost use Rattle.session.specs.Old.{old_figures};
 
+use pipe::Pipe;
 use session::{Answer, Head, History, Session, Wish};
 
 // Whether the run goes on, and the session that it goes on with.
@@ -27,9 +28,9 @@ fn long(b: u8) -> u64 {
 }
 
 // Fills all of b from standard input; false where it ends before.
-fn read_all(b: &mut [u8]) -> bool {
+fn read_all(pipe: &Pipe, b: &mut [u8]) -> bool {
     let wanted = b.len();
-    io::read_full(0, b) == wanted
+    pipe.read_full(b) == wanted
 }
 
 // The doubles of b from place `at` on, into all of x.
@@ -72,26 +73,26 @@ fn put_reply(b: &mut [u8], r: image::Reply)
     b[1] = r.refusal;
 }
 
-fn say(answer: Answer) -> bool {
+fn say(pipe: &Pipe, answer: Answer) -> bool {
     let mut b = [0u8; 22];
     put_reply(&mut b, image::reply_of(answer));
-    io::write_all(1, &b)
+    pipe.write_all(&b)
 }
 
 // The lent places as the call left them, through room that is lent for them.
-fn say_places(out: &[f64], b: &mut [u8]) -> bool
+fn say_places(pipe: &Pipe, out: &[f64], b: &mut [u8]) -> bool
     requires { (length b.old ≡ 8 * length out.now) × (length b.old ≤ 65536) }
 {
     put_doubles(out, &mut *b, 0);
-    io::write_all(1, &*b)
+    pipe.write_all(&*b)
 }
 
-fn say_lent(out: &[f64]) -> bool
+fn say_lent(pipe: &Pipe, out: &[f64]) -> bool
     requires { length out.now ≤ 512 }
 {
     let mut b = [0u8; 4096];
     let end = 8 * out.len();
-    say_places(out, &mut b[..end])
+    say_places(pipe, out, &mut b[..end])
 }
 
 // ---- the run's steps
@@ -105,10 +106,10 @@ fn stop(session: Session) -> Next {
 }
 
 // A call that is lent nothing.
-fn told(t: session::Told) -> Next {
+fn told(pipe: &Pipe, t: session::Told) -> Next {
     let answer = t.answer;
     let session = t.session;
-    let on = say(answer);
+    let on = say(pipe, answer);
     Next {
         on: on,
         session: session,
@@ -116,37 +117,41 @@ fn told(t: session::Told) -> Next {
 }
 
 // A call that was lent `out`.
-fn told_lent(t: session::Told, out: &[f64]) -> Next
+fn told_lent(pipe: &Pipe, t: session::Told, out: &[f64]) -> Next
     requires { length out.now ≤ 512 }
 {
     let answer = t.answer;
     let session = t.session;
-    let on = say(answer) & say_lent(out);
+    let on = say(pipe, answer) & say_lent(pipe, out);
     Next {
         on: on,
         session: session,
     }
 }
 
-fn open_call(s: Session) -> Next {
+fn open_call(pipe: &Pipe, s: Session) -> Next {
     let mut b = [0u8; 531];
-    if !read_all(&mut b) {
+    if !read_all(pipe, &mut b) {
         return stop(s);
     }
-    told(Session::open(
-        b[0],
-        wide(b[1]),
-        wire::read_f64(&b, 3),
-        vector(&b, 147),
-        vector(&b, 275),
-        wire::read_f64(&b, 11),
-        vector(&b, 19),
-        image::history_of(long(b[2])),
-        vector(&b, 403),
-    ))
+    told(
+        pipe,
+        Session::open(
+            b[0],
+            wide(b[1]),
+            wire::read_f64(&b, 3),
+            vector(&b, 147),
+            vector(&b, 275),
+            wire::read_f64(&b, 11),
+            vector(&b, 19),
+            image::history_of(long(b[2])),
+            vector(&b, 403),
+        ),
+    )
 }
 
 fn begin_lent(
+    pipe: &Pipe,
     s: Session,
     step: f64,
     wish: Wish,
@@ -156,12 +161,12 @@ fn begin_lent(
     requires { length out.old ≤ 512 }
 {
     let t = s.begin(step, wish, jacobian, &mut *out);
-    told_lent(t, &*out)
+    told_lent(pipe, t, &*out)
 }
 
-fn begin_call(s: Session) -> Next {
+fn begin_call(pipe: &Pipe, s: Session) -> Next {
     let mut b = [0u8; 2059];
-    if !read_all(&mut b) {
+    if !read_all(pipe, &mut b) {
         return stop(s);
     }
     let lent = wire::read_u16(&b, 2057) as usize;
@@ -173,19 +178,19 @@ fn begin_call(s: Session) -> Next {
     let mut jacobian = [0.0; image::MATRIX];
     doubles(&b, 9, &mut jacobian);
     let mut out = [-1.5; 512];
-    begin_lent(s, step, wish, jacobian, &mut out[..lent])
+    begin_lent(pipe, s, step, wish, jacobian, &mut out[..lent])
 }
 
-fn supply_lent(s: Session, answer: [f64; image::VECTOR], out: &mut [f64]) -> Next
+fn supply_lent(pipe: &Pipe, s: Session, answer: [f64; image::VECTOR], out: &mut [f64]) -> Next
     requires { length out.old ≤ 512 }
 {
     let t = s.supply(answer, &mut *out);
-    told_lent(t, &*out)
+    told_lent(pipe, t, &*out)
 }
 
-fn supply_call(s: Session) -> Next {
+fn supply_call(pipe: &Pipe, s: Session) -> Next {
     let mut b = [0u8; 130];
-    if !read_all(&mut b) {
+    if !read_all(pipe, &mut b) {
         return stop(s);
     }
     let lent = wire::read_u16(&b, 128) as usize;
@@ -194,50 +199,57 @@ fn supply_call(s: Session) -> Next {
     }
     let answer = vector(&b, 0);
     let mut out = [-1.5; 512];
-    supply_lent(s, answer, &mut out[..lent])
+    supply_lent(pipe, s, answer, &mut out[..lent])
 }
 
-fn accept_call(s: Session) -> Next {
+fn accept_call(pipe: &Pipe, s: Session) -> Next {
     let mut b = [0u8; 128];
-    if !read_all(&mut b) {
+    if !read_all(pipe, &mut b) {
         return stop(s);
     }
-    told(s.accept(vector(&b, 0)))
+    told(pipe, s.accept(vector(&b, 0)))
 }
 
-fn first_step_call(s: Session) -> Next {
+fn first_step_call(pipe: &Pipe, s: Session) -> Next {
     let mut b = [0u8; 8];
-    if !read_all(&mut b) {
+    if !read_all(pipe, &mut b) {
         return stop(s);
     }
-    told(s.first_step(wire::read_f64(&b, 0)))
+    told(pipe, s.first_step(wire::read_f64(&b, 0)))
 }
 
 // Reads the entries of a matrix or an input, all of x, through room that is lent for them.
-fn read_doubles(b: &mut [u8], x: &mut [f64]) -> bool
+fn read_doubles(pipe: &Pipe, b: &mut [u8], x: &mut [f64]) -> bool
     requires { (length b.old ≡ 8 * length x.old) × (length b.old ≤ 65536) }
 {
-    if read_all(&mut *b) {
+    if read_all(pipe, &mut *b) {
         doubles(&*b, 0, x);
         return true;
     }
     false
 }
 
-fn exponential_lent(s: Session, size: usize, b: &mut [u8], m: &mut [f64], out: &mut [f64]) -> Next
+fn exponential_lent(
+    pipe: &Pipe,
+    s: Session,
+    size: usize,
+    b: &mut [u8],
+    m: &mut [f64],
+    out: &mut [f64],
+) -> Next
     requires { (length b.old ≡ 8 * length m.old) × (length b.old ≤ 65536) × (length out.old ≤ 512) }
 {
-    if !read_doubles(b, &mut *m) {
+    if !read_doubles(pipe, b, &mut *m) {
         return stop(s);
     }
     let answer = session::exponential(size, &*m, &mut *out);
-    let on = say(answer) & say_lent(&*out);
+    let on = say(pipe, answer) & say_lent(pipe, &*out);
     Next { on: on, session: s }
 }
 
-fn exponential_call(s: Session) -> Next {
+fn exponential_call(pipe: &Pipe, s: Session) -> Next {
     let mut b = [0u8; 5];
-    if !read_all(&mut b) {
+    if !read_all(pipe, &mut b) {
         return stop(s);
     }
     let entries = wire::read_u16(&b, 1) as usize;
@@ -253,6 +265,7 @@ fn exponential_call(s: Session) -> Next {
     let mut m = [0.0; 512];
     let mut out = [-1.5; 512];
     exponential_lent(
+        pipe,
         s,
         wide(b[0]),
         &mut bytes[..room],
@@ -269,41 +282,65 @@ struct Phi {
     scale_a: f64,
 }
 
-fn phi_lent(s: Session, p: Phi, a: &[f64], input: &[f64], out: &mut [f64]) -> Next
+fn phi_lent(pipe: &Pipe, s: Session, p: Phi, a: &[f64], input: &[f64], out: &mut [f64]) -> Next
     requires { length out.old ≤ 512 }
 {
     let answer = session::phi_action(p.n, p.order, p.scale_a, a, input, &mut *out);
-    let on = say(answer) & say_lent(&*out);
+    let on = say(pipe, answer) & say_lent(pipe, &*out);
     Next { on: on, session: s }
 }
 
 // Reads the input, then makes the call.
-fn phi_input(s: Session, p: Phi, a: &[f64], b: &mut [u8], input: &mut [f64], lent: usize) -> Next
+fn phi_input(
+    pipe: &Pipe,
+    s: Session,
+    p: Phi,
+    a: &[f64],
+    b: &mut [u8],
+    input: &mut [f64],
+    lent: usize,
+) -> Next
     requires { (length b.old ≡ 8 * length input.old) × (length b.old ≤ 65536) × (lent ≤ 512) }
 {
-    if !read_doubles(b, &mut *input) {
+    if !read_doubles(pipe, b, &mut *input) {
         return stop(s);
     }
     let mut out = [-1.5; 512];
-    phi_lent(s, p, a, &*input, &mut out[..lent])
+    phi_lent(pipe, s, p, a, &*input, &mut out[..lent])
 }
 
 // Reads the matrix, then the input.
-fn phi_matrix(s: Session, p: Phi, b: &mut [u8], a: &mut [f64], inputs: usize, lent: usize) -> Next
+fn phi_matrix(
+    pipe: &Pipe,
+    s: Session,
+    p: Phi,
+    b: &mut [u8],
+    a: &mut [f64],
+    inputs: usize,
+    lent: usize,
+) -> Next
     requires { (length b.old ≡ 8 * length a.old) × (length b.old ≤ 65536) × (inputs ≤ 512) × (lent ≤ 512) }
 {
-    if !read_doubles(b, &mut *a) {
+    if !read_doubles(pipe, b, &mut *a) {
         return stop(s);
     }
     let room = 8 * inputs;
     let mut bytes = [0u8; 4096];
     let mut input = [0.0; 512];
-    phi_input(s, p, &*a, &mut bytes[..room], &mut input[..inputs], lent)
+    phi_input(
+        pipe,
+        s,
+        p,
+        &*a,
+        &mut bytes[..room],
+        &mut input[..inputs],
+        lent,
+    )
 }
 
-fn phi_call(s: Session) -> Next {
+fn phi_call(pipe: &Pipe, s: Session) -> Next {
     let mut b = [0u8; 16];
-    if !read_all(&mut b) {
+    if !read_all(pipe, &mut b) {
         return stop(s);
     }
     let entries = wire::read_u16(&b, 10) as usize;
@@ -326,12 +363,20 @@ fn phi_call(s: Session) -> Next {
     let room = 8 * entries;
     let mut bytes = [0u8; 4096];
     let mut a = [0.0; 512];
-    phi_matrix(s, p, &mut bytes[..room], &mut a[..entries], inputs, lent)
+    phi_matrix(
+        pipe,
+        s,
+        p,
+        &mut bytes[..room],
+        &mut a[..entries],
+        inputs,
+        lent,
+    )
 }
 
-fn norm_call(s: Session) -> Next {
+fn norm_call(pipe: &Pipe, s: Session) -> Next {
     let mut b = [0u8; 521];
-    if !read_all(&mut b) {
+    if !read_all(pipe, &mut b) {
         return stop(s);
     }
     let relative = wire::read_f64(&b, 1);
@@ -343,7 +388,7 @@ fn norm_call(s: Session) -> Next {
         vector(&b, 265),
         vector(&b, 393),
     );
-    let on = say(answer);
+    let on = say(pipe, answer);
     Next { on: on, session: s }
 }
 
@@ -358,13 +403,13 @@ fn put_image(numbers: &[u64], figures: &[f64], b: &mut [u8])
     put_doubles(figures, b, image::NUMBERS);
 }
 
-fn show_call(s: Session) -> Next {
+fn show_call(pipe: &Pipe, s: Session) -> Next {
     let mut numbers = [0u64; image::NUMBERS];
     image::put_numbers(s.head(), &mut numbers);
     let figures = s.figures();
     let mut b = [0u8; image::BYTES];
     put_image(&numbers, &figures, &mut b);
-    let on = io::write_all(1, &b);
+    let on = pipe.write_all(&b);
     Next { on: on, session: s }
 }
 
@@ -399,9 +444,9 @@ fn brought_over(b: &[u8]) -> Session
     Session::of(k, figures)
 }
 
-fn load_call(s: Session) -> Next {
+fn load_call(pipe: &Pipe, s: Session) -> Next {
     let mut b = [0u8; image::BYTES];
-    if !read_all(&mut b) {
+    if !read_all(pipe, &mut b) {
         return stop(s);
     }
     Next {
@@ -410,9 +455,9 @@ fn load_call(s: Session) -> Next {
     }
 }
 
-fn bring_over_call(s: Session) -> Next {
+fn bring_over_call(pipe: &Pipe, s: Session) -> Next {
     let mut b = [0u8; image::OLD_BYTES];
-    if !read_all(&mut b) {
+    if !read_all(pipe, &mut b) {
         return stop(s);
     }
     Next {
@@ -424,25 +469,25 @@ fn bring_over_call(s: Session) -> Next {
 // ---- the run
 
 // One call of the script.
-fn step(s: Session) -> Next {
+fn step(pipe: &Pipe, s: Session) -> Next {
     let mut b = [0u8; 1];
-    if !read_all(&mut b) {
+    if !read_all(pipe, &mut b) {
         return stop(s);
     }
     let op = b[0];
     match op {
-        0 => open_call(s),
-        1 => begin_call(s),
-        2 => supply_call(s),
-        3 => accept_call(s),
-        4 => told(s.drop()),
-        5 => first_step_call(s),
-        6 => exponential_call(s),
-        7 => phi_call(s),
-        8 => norm_call(s),
-        9 => show_call(s),
-        10 => load_call(s),
-        11 => bring_over_call(s),
+        0 => open_call(pipe, s),
+        1 => begin_call(pipe, s),
+        2 => supply_call(pipe, s),
+        3 => accept_call(pipe, s),
+        4 => told(pipe, s.drop()),
+        5 => first_step_call(pipe, s),
+        6 => exponential_call(pipe, s),
+        7 => phi_call(pipe, s),
+        8 => norm_call(pipe, s),
+        9 => show_call(pipe, s),
+        10 => load_call(pipe, s),
+        11 => bring_over_call(pipe, s),
         _ => stop(s),
     }
 }
@@ -465,7 +510,8 @@ fn nothing() -> Session {
 }
 
 // A proved loop has to end: it counts its turns down from a number that no run uses up.
-fn main() {
+fn main(rt: HostRuntime) {
+    let pipe = &Pipe::new(rt.stdin(), rt.stdout());
     let mut turns = u64::MAX;
     let mut next = Next {
         on: true,
@@ -473,7 +519,7 @@ fn main() {
     };
     while turns > 0 && next.on {
         let s = next.session;
-        next = step(s);
+        next = step(pipe, s);
         turns -= 1;
     }
 }

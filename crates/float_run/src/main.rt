@@ -1,8 +1,9 @@
 // Replays the oracle's list for single doubles: from each record of standard input, an op and two doubles, it writes eight bytes.
-
-// The reply to an op: a double's pattern, or 1 for a test that holds and 0 for one that does not.
 #![tactic(auto)]
 
+use pipe::Pipe;
+
+// The reply to an op: a double's pattern, or 1 for a test that holds and 0 for one that does not.
 fn reply(op: u8, x: f64, y: f64) -> u64 {
     match op {
         0 => wire::pattern(float::sqrt(x)),
@@ -21,9 +22,9 @@ fn truth(b: bool) -> u64 {
 }
 
 // Answers one record; false where the input has ended.
-fn record() -> bool {
+fn record(pipe: &Pipe) -> bool {
     let mut input = [0u8; 17];
-    let got = io::read_full(0, &mut input);
+    let got = pipe.read_full(&mut input);
     if got < 17 {
         return false;
     }
@@ -32,13 +33,14 @@ fn record() -> bool {
     let op = input[0];
     let mut output = [0u8; 8];
     wire::write_u64(&mut output, 0, reply(op, x, y));
-    io::write_all(1, &output)
+    pipe.write_all(&output)
 }
 
 // A proved loop has to end: it counts its turns down from a number that no run uses up.
-fn main() {
+fn main(rt: HostRuntime) {
+    let pipe = &Pipe::new(rt.stdin(), rt.stdout());
     let mut turns = u64::MAX;
-    while turns > 0 && record() {
+    while turns > 0 && record(pipe) {
         turns -= 1;
     }
 }

@@ -3,12 +3,14 @@
 
 #![tactic(auto)]
 
+use pipe::Pipe;
+
 fn digit(x: usize) -> u8 {
     (x % 10) as u8 + 48
 }
 
 // A name, and its value as six digits.
-fn say(name: &[u8], value: usize) {
+fn say(pipe: &Pipe, name: &[u8], value: usize) {
     let b = [
         b' ',
         digit(value / 100_000),
@@ -19,59 +21,60 @@ fn say(name: &[u8], value: usize) {
         digit(value),
         b'\n',
     ];
-    io::write_all(1, name);
-    io::write_all(1, &b);
+    pipe.write_all(name);
+    pipe.write_all(&b);
 }
 
-fn numbers() {
-    say(b"SCHEME_AT", image::SCHEME_AT);
-    say(b"N_AT", image::N_AT);
-    say(b"HISTORY_AT", image::HISTORY_AT);
-    say(b"ATTEMPT_AT", image::ATTEMPT_AT);
-    say(b"COUNT_AT", image::COUNT_AT);
-    say(b"NUMBERS", image::NUMBERS);
+fn numbers(pipe: &Pipe) {
+    say(pipe, b"SCHEME_AT", image::SCHEME_AT);
+    say(pipe, b"N_AT", image::N_AT);
+    say(pipe, b"HISTORY_AT", image::HISTORY_AT);
+    say(pipe, b"ATTEMPT_AT", image::ATTEMPT_AT);
+    say(pipe, b"COUNT_AT", image::COUNT_AT);
+    say(pipe, b"NUMBERS", image::NUMBERS);
 }
 
-fn figures() {
-    say(b"TIME_AT", image::TIME_AT);
-    say(b"STEP_AT", image::STEP_AT);
-    say(b"RELATIVE_AT", image::RELATIVE_AT);
-    say(b"ABSOLUTE_AT", image::ABSOLUTE_AT);
-    say(b"STATE_AT", image::STATE_AT);
-    say(b"DERIVATIVE_AT", image::DERIVATIVE_AT);
-    say(b"PREVIOUS_AT", image::PREVIOUS_AT);
-    say(b"JACOBIAN_AT", image::JACOBIAN_AT);
-    say(b"ANSWERS_AT", image::ANSWERS_AT);
-    say(b"FIGURES", image::FIGURES);
-    say(b"OLD_FIGURES", image::OLD_FIGURES);
-    say(b"BYTES", image::BYTES);
-    say(b"OLD_BYTES", image::OLD_BYTES);
+fn figures(pipe: &Pipe) {
+    say(pipe, b"TIME_AT", image::TIME_AT);
+    say(pipe, b"STEP_AT", image::STEP_AT);
+    say(pipe, b"RELATIVE_AT", image::RELATIVE_AT);
+    say(pipe, b"ABSOLUTE_AT", image::ABSOLUTE_AT);
+    say(pipe, b"STATE_AT", image::STATE_AT);
+    say(pipe, b"DERIVATIVE_AT", image::DERIVATIVE_AT);
+    say(pipe, b"PREVIOUS_AT", image::PREVIOUS_AT);
+    say(pipe, b"JACOBIAN_AT", image::JACOBIAN_AT);
+    say(pipe, b"ANSWERS_AT", image::ANSWERS_AT);
+    say(pipe, b"FIGURES", image::FIGURES);
+    say(pipe, b"OLD_FIGURES", image::OLD_FIGURES);
+    say(pipe, b"BYTES", image::BYTES);
+    say(pipe, b"OLD_BYTES", image::OLD_BYTES);
 }
 
-fn words() {
-    say(b"OUTCOME_AT", image::OUTCOME_AT);
-    say(b"REFUSAL_AT", image::REFUSAL_AT);
-    say(b"COUNTS_AT", image::COUNTS_AT);
-    say(b"COUNTS", image::COUNTS);
-    say(b"WORDS", image::WORDS);
+fn words(pipe: &Pipe) {
+    say(pipe, b"OUTCOME_AT", image::OUTCOME_AT);
+    say(pipe, b"REFUSAL_AT", image::REFUSAL_AT);
+    say(pipe, b"COUNTS_AT", image::COUNTS_AT);
+    say(pipe, b"COUNTS", image::COUNTS);
+    say(pipe, b"WORDS", image::WORDS);
 }
 
-fn outcomes() {
-    say(b"REFUSED", image::REFUSED as usize);
-    say(b"ASK", image::ASK as usize);
-    say(b"READY", image::READY as usize);
-    say(b"RESTING", image::RESTING as usize);
-    say(b"FIRST_STEP", image::FIRST_STEP as usize);
-    say(b"FILLED", image::FILLED as usize);
-    say(b"NORM", image::NORM as usize);
+fn outcomes(pipe: &Pipe) {
+    say(pipe, b"REFUSED", image::REFUSED as usize);
+    say(pipe, b"ASK", image::ASK as usize);
+    say(pipe, b"READY", image::READY as usize);
+    say(pipe, b"RESTING", image::RESTING as usize);
+    say(pipe, b"FIRST_STEP", image::FIRST_STEP as usize);
+    say(pipe, b"FILLED", image::FILLED as usize);
+    say(pipe, b"NORM", image::NORM as usize);
 }
 
-fn main() {
-    say(b"VECTOR", image::VECTOR);
-    say(b"MATRIX", image::MATRIX);
-    say(b"ANSWERS", image::ANSWERS);
-    numbers();
-    figures();
-    words();
-    outcomes();
+fn main(rt: HostRuntime) {
+    let pipe = &Pipe::new(rt.stdin(), rt.stdout());
+    say(pipe, b"VECTOR", image::VECTOR);
+    say(pipe, b"MATRIX", image::MATRIX);
+    say(pipe, b"ANSWERS", image::ANSWERS);
+    numbers(pipe);
+    figures(pipe);
+    words(pipe);
+    outcomes(pipe);
 }

@@ -5,6 +5,8 @@
 
 ghost use Rattle.std.specs.Prelude.{◌+◌, ◌*◌, ◌≤◌, ◌≡◌, length};
 
+use pipe::Pipe;
+
 // The doubles of a record.
 fn load(bytes: &[u8], m: &mut [f64])
     requires { length bytes.now ≡ 8 * length m.old }
@@ -33,11 +35,18 @@ fn store(m: &[f64], bytes: &mut [u8])
 }
 
 // Reads a record's doubles and writes the reply; false where the input has ended.
-fn exchange(input: &mut [u8], m: &mut [f64], out: &mut [f64], reply: &mut [u8], n: usize) -> bool
+fn exchange(
+    pipe: &Pipe,
+    input: &mut [u8],
+    m: &mut [f64],
+    out: &mut [f64],
+    reply: &mut [u8],
+    n: usize,
+) -> bool
     requires n_bound { (n ≤ 20) × (length m.old ≡ n * n) × (length out.old ≡ n * n) }
     requires input_len { (length input.old ≡ 8 * (n * n)) × (length reply.old ≡ 3 + 8 * (n * n)) }
 {
-    let got = io::read_full(0, input);
+    let got = pipe.read_full(input);
     if got < input.len() {
         return false;
     }
@@ -46,14 +55,14 @@ fn exchange(input: &mut [u8], m: &mut [f64], out: &mut [f64], reply: &mut [u8], 
     if reach.ok {
         mark(reply, reach.terms as u8, reach.squarings as u8);
         store(out, reply);
-        return io::write_all(1, reply);
+        return pipe.write_all(reply);
     }
     let no = [0u8; 1];
-    io::write_all(1, &no)
+    pipe.write_all(&no)
 }
 
 // Lends room for a matrix of size n.
-fn replay(n: usize) -> bool
+fn replay(pipe: &Pipe, n: usize) -> bool
     requires { n ≤ 20 }
 {
     let places = n * n;
@@ -64,6 +73,7 @@ fn replay(n: usize) -> bool
     let mut out = [0.0; 400];
     let mut reply = [0u8; 3203];
     exchange(
+        pipe,
         &mut input[..bytes],
         &mut m[..places],
         &mut out[..places],
@@ -73,9 +83,9 @@ fn replay(n: usize) -> bool
 }
 
 // Answers one record; false where the input has ended.
-fn record() -> bool {
+fn record(pipe: &Pipe) -> bool {
     let mut size = [0u8; 1];
-    let got = io::read_full(0, &mut size);
+    let got = pipe.read_full(&mut size);
     if got < 1 {
         return false;
     }
@@ -83,13 +93,14 @@ fn record() -> bool {
     if n > 20 {
         return false;
     }
-    replay(n as usize)
+    replay(pipe, n as usize)
 }
 
 // A proved loop has to end: it counts its turns down from a number that no run uses up.
-fn main() {
+fn main(rt: HostRuntime) {
+    let pipe = &Pipe::new(rt.stdin(), rt.stdout());
     let mut turns = u64::MAX;
-    while turns > 0 && record() {
+    while turns > 0 && record(pipe) {
         turns -= 1;
     }
 }

@@ -9,122 +9,131 @@ ghost use Rattle.std.specs.Prelude.{◌+◌, ◌≤◌, ◌≡◌, length};
 ghost use Rattle.methods.specs.Vectors.{Sized};
 
 use methods::{Kind, Point, StepResult};
+use pipe::Pipe;
 
-fn read_double() -> f64 {
+fn read_double(pipe: &Pipe) -> f64 {
     let mut bytes = [0u8; 8];
-    io::read_full(0, &mut bytes);
+    pipe.read_full(&mut bytes);
     wire::read_f64(&bytes, 0)
 }
 
 // n doubles, from place `at` on.
-fn read_doubles(out: &mut [f64], at: usize, n: usize)
+fn read_doubles(pipe: &Pipe, out: &mut [f64], at: usize, n: usize)
     requires { at + n ≤ length out.old }
 {
     for i in 0..n {
-        out[at + i] = read_double();
+        out[at + i] = read_double(pipe);
     }
 }
 
-fn read_vector(n: usize) -> [f64; 16]
+fn read_vector(pipe: &Pipe, n: usize) -> [f64; 16]
     requires { n ≤ 16 }
 {
     let mut out = [0.0; 16];
     for i in 0..n {
-        out[i] = read_double();
+        out[i] = read_double(pipe);
     }
     out
 }
 
 // The answers, the j-th from place 16 j on.
-fn read_answers(answers: &mut [f64], count: usize, n: usize)
+fn read_answers(pipe: &Pipe, answers: &mut [f64], count: usize, n: usize)
     requires { (length answers.old ≡ 320) × (count ≤ 4) × (n ≤ 16) }
 {
     for j in 0..count {
-        read_doubles(answers, 16 * j, n);
+        read_doubles(pipe, answers, 16 * j, n);
     }
 }
 
-fn write_byte(x: u8) {
+fn write_byte(pipe: &Pipe, x: u8) {
     let bytes = [x; 1];
-    io::write_all(1, &bytes);
+    pipe.write_all(&bytes);
 }
 
-fn write_count(x: u32) {
+fn write_count(pipe: &Pipe, x: u32) {
     let mut bytes = [0u8; 4];
     wire::write_u32(&mut bytes, 0, x);
-    io::write_all(1, &bytes);
+    pipe.write_all(&bytes);
 }
 
-fn write_double(x: f64) {
+fn write_double(pipe: &Pipe, x: f64) {
     let mut bytes = [0u8; 8];
     wire::write_f64(&mut bytes, 0, x);
-    io::write_all(1, &bytes);
+    pipe.write_all(&bytes);
 }
 
-fn write_vector(x: [f64; 16], n: usize)
+fn write_vector(pipe: &Pipe, x: [f64; 16], n: usize)
     requires { n ≤ 16 }
 {
     for i in 0..n {
-        write_double(x[i]);
+        write_double(pipe, x[i]);
     }
 }
 
-fn write_end(scheme: u8, r: StepResult, n: usize)
+fn write_end(pipe: &Pipe, scheme: u8, r: StepResult, n: usize)
     requires { n ≤ 16 }
 {
     let candidate = r.state;
     let error = r.error;
     let nonlinear = r.nonlinear;
     let work = r.work;
-    write_byte(2);
-    write_count(work.exponentials);
-    write_count(work.products);
-    write_vector(candidate, n);
+    write_byte(pipe, 2);
+    write_count(pipe, work.exponentials);
+    write_count(pipe, work.products);
+    write_vector(pipe, candidate, n);
     if scheme >= 14 {
-        write_byte(1);
+        write_byte(pipe, 1);
     } else {
-        write_byte(0);
+        write_byte(pipe, 0);
     }
-    write_vector(error, n);
-    write_vector(nonlinear, n);
+    write_vector(pipe, error, n);
+    write_vector(pipe, nonlinear, n);
 }
 
-fn write_question(r: StepResult, time: f64, n: usize)
+fn write_question(pipe: &Pipe, r: StepResult, time: f64, n: usize)
     requires { n ≤ 16 }
 {
     let state = r.state;
-    write_byte(1);
-    write_double(time);
-    write_vector(state, n);
+    write_byte(pipe, 1);
+    write_double(pipe, time);
+    write_vector(pipe, state, n);
 }
 
-fn reply(scheme: u8, r: StepResult, n: usize)
+fn reply(pipe: &Pipe, scheme: u8, r: StepResult, n: usize)
     requires { n ≤ 16 }
 {
     if !r.ok {
-        write_byte(0);
+        write_byte(pipe, 0);
         return;
     }
     let kind = r.kind;
     match kind {
-        Kind::Question(time) => write_question(r, time, n),
-        Kind::Done => write_end(scheme, r, n),
+        Kind::Question(time) => write_question(pipe, r, time, n),
+        Kind::Done => write_end(pipe, scheme, r, n),
     }
 }
 
 // Reads a record's doubles and answers it.
-fn exchange(scheme: u8, n: usize, held: bool, count: usize, a: &mut [f64], answers: &mut [f64])
+fn exchange(
+    pipe: &Pipe,
+    scheme: u8,
+    n: usize,
+    held: bool,
+    count: usize,
+    a: &mut [f64],
+    answers: &mut [f64],
+)
     requires sized { Sized n a.old }
     requires answers_len { (length answers.old ≡ 320) × (count ≤ 4) }
 {
-    let time = read_double();
-    let step = read_double();
-    let state = read_vector(n);
-    let f0 = read_vector(n);
+    let time = read_double(pipe);
+    let step = read_double(pipe);
+    let state = read_vector(pipe, n);
+    let f0 = read_vector(pipe, n);
     let places = a.len();
-    read_doubles(a, 0, places);
-    let previous = read_vector(n);
-    read_answers(answers, count, n);
+    read_doubles(pipe, a, 0, places);
+    let previous = read_vector(pipe, n);
+    read_answers(pipe, answers, count, n);
     let p = Point {
         n,
         time,
@@ -135,6 +144,7 @@ fn exchange(scheme: u8, n: usize, held: bool, count: usize, a: &mut [f64], answe
         previous,
     };
     reply(
+        pipe,
         scheme,
         schemes::perform_step(scheme, p, a, answers, 0, count),
         n,
@@ -142,19 +152,19 @@ fn exchange(scheme: u8, n: usize, held: bool, count: usize, a: &mut [f64], answe
 }
 
 // Lends room for a Jacobian and answers.
-fn replay(scheme: u8, n: usize, held: bool, count: usize)
+fn replay(pipe: &Pipe, scheme: u8, n: usize, held: bool, count: usize)
     requires { (1 ≤ n) × (n ≤ 16) × (count ≤ 4) }
 {
     let places = n * n;
     let mut a = [0.0; 256];
     let mut answers = [0.0; 320];
-    exchange(scheme, n, held, count, &mut a[..places], &mut answers);
+    exchange(pipe, scheme, n, held, count, &mut a[..places], &mut answers);
 }
 
 // Answers one record; false where the input has ended.
-fn record() -> bool {
+fn record(pipe: &Pipe) -> bool {
     let mut head = [0u8; 4];
-    let got = io::read_full(0, &mut head);
+    let got = pipe.read_full(&mut head);
     if got < 4 {
         return false;
     }
@@ -171,14 +181,15 @@ fn record() -> bool {
     if count > 4 {
         return false;
     }
-    replay(scheme, n as usize, held == 1, count as usize);
+    replay(pipe, scheme, n as usize, held == 1, count as usize);
     true
 }
 
 // A proved loop has to end: it counts its turns down from a number that no run uses up.
-fn main() {
+fn main(rt: HostRuntime) {
+    let pipe = &Pipe::new(rt.stdin(), rt.stdout());
     let mut turns = u64::MAX;
-    while turns > 0 && record() {
+    while turns > 0 && record(pipe) {
         turns -= 1;
     }
 }
