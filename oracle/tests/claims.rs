@@ -15,7 +15,10 @@ fn files(folder: &Path, found: &mut Vec<PathBuf>) {
     for entry in fs::read_dir(folder).unwrap() {
         let path = entry.unwrap().path();
         if path.is_dir() {
-            files(&path, found);
+            // What the toolchain keeps of a crate is none of the repository's.
+            if !path.ends_with("out") {
+                files(&path, found);
+            }
         } else {
             found.push(path);
         }

@@ -16,7 +16,7 @@ const DEFINITION: &str = include_str!("../../crates/methods/specs/Step.antt");
 
 /// Exponentials by scheme, without a history and with one, as the definition has them.
 fn exponentials() -> Vec<[usize; 2]> {
-    let mut lines = DEFINITION.lines().filter_map(|line| line.strip_prefix("exponentialTable held = "));
+    let mut lines = DEFINITION.lines().filter_map(|line| line.strip_prefix("exponential_table held = "));
     let line = lines.next().expect("no table of exponentials in crates/methods/specs/Step.antt");
     assert!(lines.next().is_none(), "two tables of exponentials");
     let table = line.strip_suffix(" ∷ []").expect(line);
