@@ -6,11 +6,10 @@ use native.Mathlib.Nat.{lt_of_mul-lt-mul_right, add-mul, mul-one, mul_comm, mul_
 use native.Mathlib.Nat.{le_of_mul-le-mul_right, div-eq_of_eq-mul_left}
 use native.Mathlib.Omega.{arith}
 use mathlib.Core.Bool.{Bool}
-use lib.Ieee.{Float, nan, inf, fin, Format, emax, low, up, down, units, sum, add, mul, div}
+use lib.Ieee.{Float, nan, inf, fin, Format, low, up, down}
 use lib.Ieee.Digits.{Equals}
 use lib.Ieee.Fits.{down_pos}
 use lib.Ieee.Exact.{HasValue}
-use Rattle.float.proofs.Round.{half}
 
 -- g is v / c rounded to a whole number: within half a unit and one part in 2 * Q
 abbrev pub Near : ℕ → ℕ → ℕ → ℕ → Type 0

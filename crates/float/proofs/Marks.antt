@@ -1,7 +1,7 @@
 -- A finite number less itself is +0.0, and anything else less itself a NaN; sums of such differences. Assumes nothing.
 use Prim.Native.Nat.{ℕ, ◌*◌, ◌<◌}
 use mathlib.Core.Path.{◌≡◌, refl, sym, ◌∙◌}
-use mathlib.Core.Bool.{Bool, true, false, not, cond, ◌&&◌}
+use mathlib.Core.Bool.{Bool, true, false, not, ◌&&◌}
 use native.Mathlib.Nat.{zero-mul, mul-pos, sub_self}
 use native.Mathlib.Omega.{arith}
 use lib.Pow.{pow_pos}

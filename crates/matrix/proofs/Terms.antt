@@ -13,7 +13,7 @@ use lib.Count.{count_trailing_zeros}
 use lib.Ieee.{Float, binary64, low, of_int, of_bits, of_fields, odd}
 use lib.Ieee.Exact.{HasValue, round_exact}
 use Rattle.float.specs.Arith.{◌⊘◌, zero+, one}
-use Rattle.loops.specs.Loop.{mat, ◌!◌}
+use Rattle.loops.specs.Loop.{◌!◌}
 use Rattle.loops.proofs.Loops.{length-tab, tab_at}
 use Rattle.loops.proofs.Places.{mat_at, length-mat, row_fits}
 use Rattle.matrix.specs.Matrix.{at, identity, mat_mul, div_all, next_term, term_at}

@@ -7,7 +7,7 @@ use Rattle.loops.specs.Loop.{mat, ◌!◌}
 use Rattle.loops.proofs.Places.{length-mat}
 use Rattle.loops.proofs.Loops.{tab_at}
 use Rattle.float.specs.Arith.{◌⊗◌, zero+, one}
-use Rattle.matrix.specs.Matrix.{at, norm, admitted, squarings, small, next_term, add_all, series, taylor, exponential, reach}
+use Rattle.matrix.specs.Matrix.{at, norm, admitted, small, next_term, add_all, series, taylor, exponential, reach}
 use Rattle.matrix.specs.Vector.{zeros, vec}
 use Rattle.matrix.specs.Claims.{Admitted}
 use Rattle.matrix.proofs.Powers.{squarings-room}

@@ -14,7 +14,7 @@ use lib.Seq.{get_or-take}
 use borrow.Author.Tests.{lt-ltb, le-ltb, ltb-true, ltb-false}
 use Rattle.loops.specs.Loop.{every, tab, stores, ◌!◌}
 use Rattle.loops.proofs.Loops.{every_ext, past_end, length-tab, tab_at}
-use Rattle.loops.proofs.Stores.{length-stores, stores_out, stores_in}
+use Rattle.loops.proofs.Stores.{length-stores}
 use Rattle.loops.proofs.Places.{slot_row, slot_column}
 use Rattle.float.specs.Arith.{zero+, finite, plus_zero}
 use Rattle.evaluation.specs.Evaluation.{all_finite}

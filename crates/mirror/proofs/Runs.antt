@@ -1,30 +1,25 @@
 -- Demand 3 proved: an opening and a list of calls, and what the working relations say in the statement's words. Assumes nothing.
-use Prim.Native.Nat.{ℕ, ◌/◌, ◌%◌, ◌≤◌, ◌<◌}
+use Prim.Native.Nat.{ℕ, ◌≤◌, ◌<◌}
 use native.Mathlib.Decide.{dec_lt}
 use native.Mathlib.Omega.{arith}
 use mathlib.Core.Path.{◌≡◌, refl, sym, ap, subst, subst₂}
 use mathlib.Core.Bool.{Bool, true, false, ◌&&◌}
 use mathlib.Core.List.{List}
-use lib.Dec.{ltb, leb-suc-zero}
 use lib.Ieee.{Float, nan, inf, fin}
 use lib.ListN.{length}
 use Rattle.loops.specs.Loop.{tab, ◌!◌}
 use Rattle.loops.proofs.Loops.{past_end, length-tab, tab_at}
 use Rattle.float.proofs.Signs.{false_unlike}
 use Rattle.session.specs.declared.Session.{Session}
-use Rattle.session.specs.declared.History.{History}
-use Rattle.session.specs.declared.History.TheVariants.{Missing, Held}
-use Rattle.session.specs.declared.Attempt.{Attempt}
-use Rattle.session.specs.declared.Attempt.TheVariants.{None, Supplied, Differenced}
 use Rattle.session.specs.declared.Wish.TheVariants.{Given, Difference}
 use Rattle.session.specs.Values.{is_refused}
-use Rattle.session.specs.Session.{Run, Trial, idle, fresh, used_history, used_jacobian, in_answers}
+use Rattle.session.specs.Session.{Run, Trial}
 use Rattle.session.specs.Calls.{Outcome, nothing, opened, attempt_of}
 use Rattle.session.specs.Runs.{Call, perform, opening, run}
 use Rattle.mirror.specs.Mirror.{flip, flipped, flipped_opening, FlippedCall, begins, supplies, accepts, drops, first_steps, FlippedCalls, no_call, and_call, wishes_difference}
-use Rattle.mirror.specs.Mirror.{Undifferenced, Zero, Agrees, Alike, MirroredRun, MirroredTrial, Mirrored, SameOutcome, SameOutcomes, no_outcome, and_outcome, MirroredRuns}
+use Rattle.mirror.specs.Mirror.{Undifferenced, Alike, MirroredRun, MirroredTrial, Mirrored, SameOutcome, SameOutcomes, no_outcome, and_outcome, MirroredRuns}
 use Rattle.mirror.proofs.Floats.{m_flip, agrees}
-use Rattle.mirror.proofs.Places.{At, at_nan, Placed, in_use_lem, blank_m}
+use Rattle.mirror.proofs.Places.{At, at_nan, Placed, blank_m}
 use Rattle.mirror.proofs.Sessions.{Runs, run_m, Trials, trial_m, live, Sessions, void, alive, idle_m}
 use Rattle.mirror.proofs.Calls.{Outcomes, bare_m, begin_m, difference_m, supply_m, accept_m, drop_m, first_step_m, begin_void, supply_void, accept_void, drop_void, first_step_void, open_m}
 

@@ -10,7 +10,7 @@ use lib.Bits.{bit_or, or_add_and, and_le_l, and_le_r}
 use lib.Dec.{T, ltb, eqb}
 use lib.Ieee.{Float, nan, inf, fin, binary64, fits, is_nan, of_bits, to_bits, size, span, climb}
 use lib.Ieee.Bits.{of_bits-to_bits}
-use lib.ListN.{length, set}
+use lib.ListN.{length}
 use lib.Seq.{set-get_or}
 use borrow.Author.Tests.{eq-eqb, ne_eqb, eqb-true, lt-ltb, le-ltb}
 use Rattle.loops.specs.Loop.{every, stores, ◌!◌}

@@ -1,12 +1,12 @@
 -- Places that are +0.0 and lists of finite numbers: of nothing, of a vector, and after one answer more. Assumes nothing.
-use Prim.Native.Nat.{ℕ, zero, suc, ◌+◌, ◌*◌, ◌/◌, ◌%◌, ◌≤◌, ◌<◌}
+use Prim.Native.Nat.{ℕ, zero, suc, ◌+◌, ◌*◌, ◌/◌, ◌%◌, ◌<◌}
 use native.Mathlib.Decide.{dec_lt, ℕ_discrete}
 use native.Mathlib.Omega.{arith}
-use mathlib.Core.Path.{◌≡◌, refl, sym, ap, ◌∙◌, subst}
-use mathlib.Core.Logic.{◌≢◌, inl, inr}
-use mathlib.Core.Bool.{Bool, true, false, ◌&&◌, ◌||◌, or-true, false≢true}
+use mathlib.Core.Path.{◌≡◌, refl, sym, ap, ◌∙◌}
+use mathlib.Core.Logic.{◌≢◌}
+use mathlib.Core.Bool.{Bool, true, false, ◌||◌, or-true, false≢true}
 use mathlib.Core.List.{List}
-use lib.Dec.{T, ltb, eqb}
+use lib.Dec.{T, ltb}
 use lib.IntN.{ℤ}
 use lib.Count.{count_trailing_zeros}
 use lib.Ieee.{Float, nan, inf, fin, binary64, eq, fits, up, down, odd, of_bits, of_fields}
@@ -14,7 +14,7 @@ use lib.ListN.{length, replicate, length-replicate, get_or-replicate}
 use lib.Seq.{ext_get_or}
 use borrow.Author.Tests.{lt-ltb, ltb-true, eq-eqb, eqb-true}
 use Rattle.loops.proofs.Bools.{both_true}
-use Rattle.loops.specs.Loop.{every, stores, ◌!◌}
+use Rattle.loops.specs.Loop.{stores, ◌!◌}
 use Rattle.loops.proofs.Loops.{every_at, every_of}
 use Rattle.loops.proofs.Stores.{length-stores, stores_in, stores_out}
 use Rattle.float.specs.Arith.{zero+, finite, plus_zero, abs}

@@ -12,7 +12,7 @@ use lib.Ieee.{Float, nan, binary64, fits}
 use lib.ListN.{length, set, take, drop, replicate, length-drop, length-replicate, get_or-replicate}
 use lib.Seq.{get_or-set_other, length-take-le}
 use Rattle.loops.proofs.Bools.{both_true}
-use Rattle.loops.specs.Loop.{from, stores, every, ◌!◌}
+use Rattle.loops.specs.Loop.{stores, every, ◌!◌}
 use Rattle.loops.proofs.Loops.{every_ext, length-tab, tab_at, past_end}
 use Rattle.loops.proofs.Stores.{is_tab, tab_ext, stores_out, stores_in, length-stores}
 use Rattle.float.specs.Arith.{zero+, finite}
@@ -24,7 +24,7 @@ use Rattle.session.specs.Claims.{Doubles, Typed}
 use Rattle.session.specs.Figures.{FIGURES, time_at, step_at, relative_at, absolute_at, state_at, derivative_at, previous_at, jacobian_at, answers_at}
 use Rattle.session.proofs.Blank.{every_split}
 use Rattle.session.specs.Lent.{arrays_finite}
-use Rattle.session.specs.Figures.{part, first, session_of, arrays, behind}
+use Rattle.session.specs.Figures.{part, session_of}
 
 -- ---- parts
 

@@ -7,7 +7,7 @@ use native.Mathlib.Omega.{arith}
 use lib.Ieee.{Float}
 use lib.ListN.{length}
 use Rattle.loops.specs.Loop.{◌!◌}
-use Rattle.matrix.specs.Matrix.{admitted, exponential, Few}
+use Rattle.matrix.specs.Matrix.{admitted, Few}
 use Rattle.matrix.specs.Vector.{vec}
 use Rattle.matrix.proofs.Claims.{at_most_47}
 use Rattle.matrix.proofs.Vectors.{vec_at}

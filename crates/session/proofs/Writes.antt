@@ -14,7 +14,7 @@ use lib.Seq.{ext_get_or, get_or-set_same, get_or-set_other, get_or-take, length-
 use borrow.Author.Tests.{le-ltb}
 use Rattle.loops.proofs.Loops.{every_at}
 use Rattle.loops.proofs.Stores.{stores_out, stores_in, length-stores}
-use Rattle.loops.specs.Loop.{stores, every, ◌!◌}
+use Rattle.loops.specs.Loop.{stores, ◌!◌}
 use Rattle.float.specs.Arith.{◌⊕◌, zero+, plus_zero, finite}
 use Rattle.evaluation.specs.Sizes.{places, answers_kept, answer_room}
 use Rattle.methods.specs.Sizes.{etd2_number}

@@ -1,5 +1,5 @@
 -- The calls over lent figures: what each leaves of the session whose figures it was lent. Definitions only.
-use Rattle.std.specs.Prelude.{ℕ, ◌*◌, Bool, cond, ◌&&◌, List, Float, length, take}
+use Rattle.std.specs.Prelude.{ℕ, ◌*◌, Bool, cond, ◌&&◌, List, Float, take}
 use Rattle.session.specs.declared.Session.{Session}
 use Rattle.session.specs.declared.Head.{Head}
 use Rattle.session.specs.declared.History.{History}

@@ -1,5 +1,4 @@
 -- `console::put_doubles` meets its contract. Assumes nothing.
-use Prim.Native.Nat.{◌-◌}
 use native.Mathlib.Omega.{arith}
 use mathlib.Core.Path.{refl}
 use Rattle.console.proofs.put_doubles.Goals as goal

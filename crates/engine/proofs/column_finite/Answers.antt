@@ -1,5 +1,4 @@
 -- `engine::column_finite` meets its contract. Assumes nothing.
-use Prim.Native.Nat.{◌-◌}
 use native.Mathlib.Omega.{arith}
 use Rattle.loops.proofs.Loops.{every_end, every_none, every_step}
 use Rattle.engine.proofs.column_finite.Goals as goal

@@ -1,7 +1,5 @@
 -- `engine::deltas` meets its contract. Assumes nothing.
-use Prim.Native.Nat.{◌-◌}
 use native.Mathlib.Omega.{arith}
-use Rattle.engine.specs.Engine.{delta}
 use Rattle.matrix.proofs.Vectors.{vec_call, vec_end, vec_none}
 use Rattle.engine.proofs.deltas.Goals as goal
 

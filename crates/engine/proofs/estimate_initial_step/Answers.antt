@@ -1,5 +1,4 @@
 -- `engine::estimate_initial_step` meets its contract. Assumes nothing.
-use Prim.Native.Nat.{◌-◌}
 use native.Mathlib.Omega.{arith}
 use Rattle.engine.specs.Engine.{rate, by_rates, first_step}
 use Rattle.float.proofs.Sums.{most_end, most_none, most_step}

@@ -1,7 +1,6 @@
 -- `engine::perturbed` meets its contract. Assumes nothing.
-use Prim.Native.Nat.{◌-◌}
 use native.Mathlib.Omega.{arith}
-use Rattle.engine.specs.Engine.{perturbed, perturbed_entry}
+use Rattle.engine.specs.Engine.{perturbed}
 use Rattle.matrix.proofs.Vectors.{vec_call, vec_end, vec_none}
 use Rattle.engine.proofs.perturbed.Goals as goal
 

@@ -1,5 +1,4 @@
 -- `engine::scaled_error_norm` meets its contract. Assumes nothing.
-use Prim.Native.Nat.{◌-◌}
 use native.Mathlib.Omega.{arith}
 use Rattle.engine.proofs.Small.{float_small}
 use Rattle.engine.specs.Engine.{ratio, root_mean, error_norm}

@@ -1,5 +1,4 @@
 -- `evaluation::all_finite` meets its contract: the two sums tell of the places passed. Assumes nothing.
-use Prim.Native.Nat.{◌-◌}
 use native.Mathlib.Omega.{arith}
 use Rattle.evaluation.proofs.Sums.{halves_none, halves_step, halves_sum, mark_end}
 use Rattle.evaluation.proofs.all_finite.Goals as goal

@@ -1,5 +1,4 @@
 -- `evaluation::rest` meets its contract: the sum tells of the places passed. Assumes nothing.
-use Prim.Native.Nat.{◌-◌}
 use native.Mathlib.Omega.{arith}
 use mathlib.Core.Path.{refl, ap, ◌∙◌}
 use Rattle.float.specs.Arith.{mark}

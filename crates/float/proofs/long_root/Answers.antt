@@ -1,5 +1,5 @@
 -- `float::long_root` meets its contract. The loop's invariant: the root so far is that of v with j pairs of zeros. Assumes nothing.
-use Prim.Native.Nat.{ℕ, ◌-◌}
+use Prim.Native.Nat.{ℕ}
 use mathlib.Core.Path.{sym, subst}
 use native.Mathlib.Nat.{mul-one}
 use native.Mathlib.Omega.{arith}

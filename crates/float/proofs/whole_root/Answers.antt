@@ -1,5 +1,5 @@
 -- `float::whole_root` meets its contract. The loop's invariant: the root so far is that of v's leading digits. Assumes nothing.
-use Prim.Native.Nat.{◌-◌, ◌*◌, ◌/◌, ◌^◌, ◌≤◌}
+use Prim.Native.Nat.{◌-◌, ◌*◌, ◌/◌, ◌^◌}
 use mathlib.Core.Path.{sym}
 use native.Mathlib.Nat.{mod-lt}
 use lib.Dec.{lit≤}

@@ -1,5 +1,5 @@
 -- `float::whole_root` meets its contract. The loop's invariant: the root so far is that of v's leading digits. Assumes nothing.
-use Prim.Native.Nat.{◌-◌, ◌*◌, ◌/◌, ◌^◌, ◌≤◌}
+use Prim.Native.Nat.{◌*◌, ◌/◌, ◌^◌, ◌≤◌}
 use Rattle.float.specs.Digits.{Rooted}
 use Rattle.float.proofs.whole_root.Given as goal
 

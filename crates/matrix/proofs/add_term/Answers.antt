@@ -1,9 +1,7 @@
 -- `matrix::add_term` meets its contract: after p turns the first p entries of the term are divided and added, and their largest magnitudes kept. Assumes nothing.
-use Prim.Native.Nat.{◌-◌}
 use native.Mathlib.Omega.{arith}
 use lib.ListN.{length-set}
 use Rattle.loops.proofs.Loops.{stores_none}
-use Rattle.float.specs.Arith.{abs}
 use Rattle.float.proofs.Sums.{most_none}
 use Rattle.matrix.proofs.Series.{term_step, sum_added, big_step, top_step, added}
 use Rattle.float.proofs.Order.{is_number, zero_number, one_number}

@@ -1,5 +1,4 @@
 -- `matrix::add_two` meets its contract: after j turns the first j entries of the row are done. Assumes nothing.
-use Prim.Native.Nat.{◌-◌}
 use native.Mathlib.Omega.{arith}
 use lib.ListN.{length-set}
 use Rattle.loops.proofs.Loops.{stores_none, stores_step, stores_end}

@@ -1,5 +1,4 @@
 -- `matrix::clear` meets its contract: after p turns the first p entries are cleared. Assumes nothing.
-use Prim.Native.Nat.{◌-◌}
 use native.Mathlib.Omega.{arith}
 use lib.ListN.{length-set}
 use Rattle.loops.proofs.Loops.{stores_none, stores_end, stores_step0}

@@ -1,5 +1,4 @@
 -- `matrix::div_all` meets its contract: after p turns the first p places are divided. Assumes nothing.
-use Prim.Native.Nat.{◌-◌}
 use native.Mathlib.Omega.{arith}
 use lib.ListN.{length-set}
 use Rattle.loops.proofs.Loops.{stores_none, stores_step0}

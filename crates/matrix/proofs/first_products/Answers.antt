@@ -1,6 +1,5 @@
 -- `matrix::first_products` meets its contract. Assumes nothing.
 use native.Mathlib.Omega.{arith}
-use Rattle.matrix.proofs.Runs.{room}
 use Rattle.matrix.proofs.Products.{first_one, first_two}
 use Rattle.matrix.proofs.first_products.Goals as goal
 

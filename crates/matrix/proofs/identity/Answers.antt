@@ -1,5 +1,4 @@
 -- `matrix::identity` meets its contract: after i turns the first i rows are the identity's. Assumes nothing.
-use Prim.Native.Nat.{◌-◌}
 use native.Mathlib.Omega.{arith}
 use lib.ListN.{length-set}
 use Rattle.loops.proofs.Stores.{rows_none}

@@ -1,5 +1,4 @@
 -- `matrix::mat_mul` meets its contract: after i turns the first i rows are the product's. Assumes nothing.
-use Prim.Native.Nat.{◌-◌}
 use native.Mathlib.Omega.{arith}
 use Rattle.loops.proofs.Stores.{rows_none}
 use Rattle.matrix.proofs.Products.{product_step, product_end}

@@ -1,5 +1,4 @@
 -- `matrix::mat_vec` meets its contract: after i turns the first i entries are the rows' sums. Assumes nothing.
-use Prim.Native.Nat.{◌-◌}
 use native.Mathlib.Omega.{arith}
 use lib.Ieee.{nan}
 use lib.ListN.{length-set}

@@ -1,7 +1,5 @@
 -- `matrix::product_row` meets its contract: each entry of the row is the sum of k products. Assumes nothing.
-use Prim.Native.Nat.{◌-◌}
 use native.Mathlib.Omega.{arith}
-use Rattle.matrix.proofs.Runs.{room}
 use Rattle.matrix.proofs.Products.{row_first, row_two, pair_even, pair-room, row_end}
 use Rattle.matrix.proofs.product_row.Goals as goal
 

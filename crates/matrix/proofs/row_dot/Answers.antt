@@ -1,5 +1,4 @@
 -- `matrix::row_dot` meets its contract: the sum has the first j products. Assumes nothing.
-use Prim.Native.Nat.{◌-◌}
 use native.Mathlib.Omega.{arith}
 use Rattle.float.proofs.Sums.{sum_first, sum_step, sum_end}
 use native.Mathlib.Nat.{add-zero}

@@ -1,8 +1,6 @@
 -- `matrix::row_norm` meets its contract: the first i rows are tested, and the largest of their sums is kept. Assumes nothing.
-use Prim.Native.Nat.{◌-◌}
 use native.Mathlib.Omega.{arith}
 use Rattle.loops.proofs.Loops.{every_none, every_step, every_end}
-use Rattle.float.specs.Arith.{finite}
 use Rattle.float.proofs.Sums.{most_none, most_step, most_end}
 use Rattle.matrix.specs.Matrix.{admitted, norm}
 use Rattle.matrix.proofs.row_norm.Goals as goal

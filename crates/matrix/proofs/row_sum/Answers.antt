@@ -1,5 +1,4 @@
 -- `matrix::row_sum` meets its contract: the sum has the first abss. Assumes nothing.
-use Prim.Native.Nat.{◌-◌}
 use native.Mathlib.Omega.{arith}
 use Rattle.float.proofs.Sums.{sum_first, sum_step, sum_end}
 use Rattle.matrix.specs.Matrix.{row_sum}

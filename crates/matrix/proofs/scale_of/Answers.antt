@@ -1,7 +1,5 @@
 -- `matrix::scale_of` meets its contract: half is half of 2 ^ count, and no smaller count is enough. Assumes nothing.
-use Prim.Native.Nat.{◌-◌}
 use native.Mathlib.Omega.{arith}
-use Rattle.matrix.proofs.Runs.{room}
 use Rattle.matrix.proofs.Powers.{half-zero, half_next, short_step, short_room, squarings_is, twice_half}
 use Rattle.matrix.proofs.scale_of.Goals as goal
 

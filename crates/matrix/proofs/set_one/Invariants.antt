@@ -4,7 +4,6 @@ use mathlib.Core.Path.{◌≡◌}
 use lib.ListN.{length}
 use Rattle.loops.specs.Loop.{stores, ◌!◌}
 use Rattle.float.specs.Arith.{◌⊕◌, ◌⊗◌, zero+}
-use Rattle.matrix.specs.Matrix.{at}
 use Rattle.matrix.proofs.set_one.Given as goal
 
 abbrev pub invariant-loop-j : goal.invariant-loop-j

@@ -1,5 +1,4 @@
 -- `matrix::square` meets its contract: each turn squares twice. Assumes nothing.
-use Prim.Native.Nat.{◌-◌}
 use native.Mathlib.Omega.{arith}
 use Rattle.matrix.proofs.Products.{squared_none, squared_end, pair_step}
 use Rattle.matrix.proofs.square.Goals as goal

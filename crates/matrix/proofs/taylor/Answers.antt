@@ -1,7 +1,5 @@
 -- `matrix::taylor` meets its contract: what is left of the series is the whole, and term 15 is never passed. Assumes nothing.
-use Prim.Native.Nat.{◌-◌}
 use native.Mathlib.Omega.{arith}
-use Rattle.float.specs.Arith.{one}
 use Rattle.matrix.proofs.Series.{left_all, left_bound, left_step, left_stop, left-two}
 use Rattle.matrix.proofs.taylor.Goals as goal
 

@@ -1,5 +1,4 @@
 -- `matrix_run::load` meets its contract. Assumes nothing.
-use Prim.Native.Nat.{◌-◌}
 use native.Mathlib.Omega.{arith}
 use lib.ListN.{length-set}
 use Rattle.matrix_run.proofs.load.Goals as goal

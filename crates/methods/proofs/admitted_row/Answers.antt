@@ -1,6 +1,5 @@
 -- `methods::admitted_row`: the sum has the first items, and then the input. Assumes nothing.
-use Rattle.std.proofs.Common.{◌-◌, refl, arith}
-use Rattle.float.specs.Arith.{abs}
+use Rattle.std.proofs.Common.{refl, arith}
 use Rattle.methods.proofs.Laws.{row_inside}
 use Rattle.methods.proofs.Augmented.{input_sum, input_more, input_tested}
 use Rattle.methods.proofs.admitted_row.Goals as goal

@@ -1,5 +1,5 @@
 -- `methods::augmented_row`: a turn for each place of the row of a, and the input behind it. Assumes nothing.
-use Rattle.std.proofs.Common.{◌-◌, refl, arith, length-set}
+use Rattle.std.proofs.Common.{refl, arith, length-set}
 use Rattle.loops.proofs.Loops.{stores_none}
 use Rattle.methods.proofs.Laws.{row_inside}
 use Rattle.methods.proofs.Augmented.{input_step, input_end}

@@ -1,5 +1,5 @@
 -- `methods::augmented_rows`: a turn for each row of a. Assumes nothing.
-use Rattle.std.proofs.Common.{◌-◌, arith}
+use Rattle.std.proofs.Common.{arith}
 use Rattle.loops.proofs.Places.{row_small}
 use Rattle.methods.proofs.Augmented.{rows_length, rows_end, row_step}
 use Rattle.methods.proofs.augmented_rows.Goals as goal

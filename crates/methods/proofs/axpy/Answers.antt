@@ -1,5 +1,5 @@
 -- `methods::axpy`: a turn for each place in use. Assumes nothing.
-use Rattle.std.proofs.Common.{◌-◌, arith}
+use Rattle.std.proofs.Common.{arith}
 use Rattle.methods.specs.Vectors.{axpy}
 use Rattle.matrix.proofs.Vectors.{vec_none, vec_step, vec_end}
 use Rattle.methods.proofs.axpy.Goals as goal

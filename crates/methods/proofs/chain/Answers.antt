@@ -1,5 +1,5 @@
 -- `methods::chain`: a one in each row. Assumes nothing.
-use Rattle.std.proofs.Common.{◌-◌, arith, length-set}
+use Rattle.std.proofs.Common.{arith, length-set}
 use Rattle.loops.proofs.Places.{row_small}
 use Rattle.methods.proofs.Augmented.{chained-first, chained_step, chained_end}
 use Rattle.methods.proofs.chain.Goals as goal

@@ -1,5 +1,5 @@
 -- `methods::column_of`: a turn for each row in use. Assumes nothing.
-use Rattle.std.proofs.Common.{◌-◌, arith}
+use Rattle.std.proofs.Common.{arith}
 use Rattle.matrix.proofs.Vectors.{vec_none, vec_step, vec_end}
 use Rattle.loops.proofs.Places.{row_small}
 use Rattle.methods.proofs.column_of.Goals as goal

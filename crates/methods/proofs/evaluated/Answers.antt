@@ -1,5 +1,5 @@
 -- `methods::evaluated`: a turn for each place of the answer. Assumes nothing.
-use Rattle.std.proofs.Common.{◌-◌, arith}
+use Rattle.std.proofs.Common.{arith}
 use Rattle.methods.specs.Pass.{answer}
 use Rattle.matrix.proofs.Vectors.{vec_none, vec_step, vec_end}
 use Rattle.methods.proofs.evaluated.Goals as goal

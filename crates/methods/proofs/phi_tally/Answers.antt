@@ -1,5 +1,5 @@
 -- `methods::phi_tally`: the first i rows are tested. Assumes nothing.
-use Rattle.std.proofs.Common.{◌-◌, ap, ◌∙◌, arith}
+use Rattle.std.proofs.Common.{ap, ◌∙◌, arith}
 use Rattle.loops.proofs.Loops.{every_none, every_step, every_end}
 use Rattle.methods.specs.Tally.{tested}
 use Rattle.methods.specs.Parts.{input_admitted}

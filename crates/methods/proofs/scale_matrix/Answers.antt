@@ -1,5 +1,5 @@
 -- `methods::scale_matrix`: a turn for each place of the matrix. Assumes nothing.
-use Rattle.std.proofs.Common.{◌-◌, arith, length-set}
+use Rattle.std.proofs.Common.{arith, length-set}
 use Rattle.loops.proofs.Loops.{fill_none, fill_call}
 use Rattle.loops.proofs.Places.{mat_all}
 use Rattle.methods.proofs.Laws.{scale_at}

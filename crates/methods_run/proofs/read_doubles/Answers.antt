@@ -1,5 +1,4 @@
 -- `methods_run::read_doubles` is safe and ends. Assumes nothing.
-use Prim.Native.Nat.{◌-◌}
 use native.Mathlib.Omega.{arith}
 use lib.ListN.{length-set}
 use Rattle.methods_run.proofs.read_doubles.Goals as goal

@@ -1,5 +1,4 @@
 -- `session::all_positive` meets its contract. Assumes nothing.
-use Prim.Native.Nat.{◌-◌}
 use native.Mathlib.Omega.{arith}
 use Rattle.loops.proofs.Loops.{every_end, every_none, every_step}
 use Rattle.session.proofs.all_positive.Goals as goal

@@ -2,7 +2,7 @@
 use native.Mathlib.Omega.{arith}
 use mathlib.Core.Path.{refl, ap, ◌∙◌}
 use Rattle.evaluation.specs.Evaluation.{all_finite}
-use Rattle.session.specs.Session.{attempt_places, clear}
+use Rattle.session.specs.Session.{attempt_places}
 use Rattle.evaluation.specs.Sizes.{answer_room}
 use Rattle.session.specs.Figures.{answers_at, session_of}
 use Rattle.session.proofs.Parts.{jacobian_slice, answers_slice, jacobian_calm, answers_calm, slice_long}

@@ -1,5 +1,4 @@
 -- `session::copied` meets its contract. Assumes nothing.
-use Prim.Native.Nat.{◌-◌}
 use native.Mathlib.Omega.{arith}
 use Rattle.matrix.proofs.Vectors.{vec_call, vec_end, vec_none}
 use Rattle.session.proofs.Old.{copied-vec}

@@ -1,9 +1,6 @@
 -- `session::Session::figures` meets its contract. Assumes nothing.
 use borrow.Author.Rules.{rules}
 use mathlib.Core.Path.{ap, ◌∙◌}
-use lib.Ieee.{Float}
-use Rattle.evaluation.specs.Sizes.{places, answer_room}
-use Rattle.session.specs.Session.{jacobian_room}
 use Rattle.session.specs.Figures.{session_of, head_of}
 use Rattle.session.proofs.Inverse.{session_back}
 use Rattle.session.proofs.Session.figures.Goals as goal

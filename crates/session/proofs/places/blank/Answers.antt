@@ -1,5 +1,4 @@
 -- `session::places::blank` meets its contract. Assumes nothing.
-use Prim.Native.Nat.{◌-◌}
 use native.Mathlib.Omega.{arith}
 use Rattle.session.proofs.Blank.{place_number, blank_none, blank_step, blank_end}
 use Rattle.session.proofs.places.blank.Goals as goal

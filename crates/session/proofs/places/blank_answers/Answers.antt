@@ -1,5 +1,4 @@
 -- `session::places::blank_answers` meets its contract. Assumes nothing.
-use Prim.Native.Nat.{◌-◌}
 use native.Mathlib.Omega.{arith}
 use Rattle.loops.proofs.Loops.{every_none, every_step, every_end}
 use Rattle.session.proofs.Blank.{row_told}

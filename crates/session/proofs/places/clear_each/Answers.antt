@@ -1,8 +1,6 @@
 -- `session::places::clear_each` meets its contract. Assumes nothing.
-use Prim.Native.Nat.{◌-◌}
 use native.Mathlib.Omega.{arith}
 use Rattle.loops.proofs.Loops.{every_none, every_step, every_end}
-use Rattle.float.specs.Arith.{plus_zero}
 use Rattle.session.specs.Session.{clear}
 use Rattle.session.proofs.places.clear_each.Goals as goal
 

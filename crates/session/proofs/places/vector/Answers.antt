@@ -1,5 +1,4 @@
 -- `session::places::vector` meets its contract. Assumes nothing.
-use Prim.Native.Nat.{◌-◌}
 use native.Mathlib.Omega.{arith}
 use Rattle.matrix.proofs.Vectors.{vec_none, vec_step, vec_end}
 use Rattle.session.proofs.places.vector.Goals as goal
