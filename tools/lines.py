@@ -1,26 +1,53 @@
 #!/usr/bin/env python3
 """Writes the proofs of the schemes' functions, line by line of their passes. Run at the repository's root.
 
-  python3 tools/lines.py stub CRATE            an empty proof for each function of the plan that has none
-  rt dev CRATE --generated target/gen          what is to be shown, once and after each change of the code
-  python3 tools/lines.py CRATE [FN..]          crates/CRATE/proofs/FN/Proof.antt for each function of the plan
-  python3 tools/lines.py show CRATE FN         the function's needs, and what can be named at each
+  python3 tools/lines.py CRATE [FN..]      writes crates/CRATE/proofs/FN/Answers.antt for each function of the plan
 
-The plan is tools/plans/CRATE.txt; tools/README.md says how it is written.
+The plan is tools/plans/CRATE.txt; tools/README.md says how it is written. The goals and steps of the code are read from target/gen/CRATE/names.json,
+which this writes, in crates/CRATE:
+
+  rt check --generated ../../target/gen/CRATE --old-names
 """
+import glob
+import json
 import os
 import re
 import sys
 
-SMALL = {'add', 'subtract', 'scale', 'axpy', 'added', 'after', 'scaled', 'more', 'combine2', 'combine3', 'a52', 'a54'}
-NONE = {'all-finite', 'finite', 'tested', 'may-ask', 'asked', 'ended', 'joined', 'nothing', 'clean', 'unadmitted', 'powi2', 'powi3', 'powi4', 'powi', 'divisor'}
-PHI = {'phi-term': 2, 'phi-action': 2, 'phi-term-if': 3, 'phi-if': 3, 'add-term': 4}
-LINES = ['begin', 'go-on', 'at-once', 'checked-line', 'over-line', 'over-plain', 'alone', 'reported', 'open-line', 'last-line', 'first-part',
-         'first-over', 'next-plain', 'next-part', 'next-made', 'part-now', 'summed', 'answered-line', 'handed-on', 'handed-later', 'wanted-line', 'both-ask', 'unasked']
-REQUIRES = ['order-1', 'order-2', 'order-3', 'order-4', 'matrix-of', 'plain-answer', 'answer-0', 'answer-1', 'answer-2', 'answer-3']
-AP = {'add': 'add _ _', 'subtract': 'subtract _ _', 'axpy': 'axpy _ _ _'}
-STEP = 4
 WIDTH = 160
+
+# a line of a pass: its law of methods/proofs/Lines.antt, and how many facts that takes
+LAWS = {
+    'begin': ('begin _ _ _ _ _', 0),
+    'go': ('go_on _ _ _ _ _ _', 0),
+    'now': ('at_once _ _ _', 1),
+    'check': ('checked_line _ _ _', 1),
+    'over': ('over_line _ _ _ _ _', 2),
+    'plain': ('over_plain _ _ _ _ _', 2),
+    'alone': ('alone _ _', 0),
+    'report': ('reported _', 1),
+    'first': ('first_part _ _ _', 1),
+    'first-over': ('first-over _ _ _ _ _', 2),
+    'part': ('next_part _ _ _ _', 1),
+    'made': ('next_made _ _ _ _ _', 2),
+    'part-now': ('part_now _ _ _', 1),
+    'sum': ('summed _ _', 0),
+}
+
+# the same with a term for the first fact, which stands last in the plan; the term of a part is of one whose counts are not narrowed yet
+BY = {verb + '-by': LAWS[verb] for verb in LAWS if LAWS[verb][1]} | {'part-by': ('next_plain _ _ _ _', 1)}
+
+# what a written answer may cite, by module
+CITED = {
+    'native.Mathlib.Omega': 'arith',
+    'mathlib.Core.Path': 'refl ap ◌∙◌',
+    'Rattle.methods.specs.Vectors': 'add subtract axpy',
+    'Rattle.methods.specs.Pass': 'also ◌>>=◌',
+    'Rattle.methods.proofs.Lines':
+        'begin go_on at_once checked_line over_line over_plain alone reported open_line last_line first_part first-over next_plain next_part next_made '
+        'part_now summed answered_line handed_on handed_later wanted_line both_ask unasked',
+    'Rattle.methods.proofs.Requires': 'order_1 order_2 order_3 order_4 matrix_of plain_answer answer_0 answer_1 answer_2 answer_3',
+}
 
 
 def read(path):
@@ -28,380 +55,265 @@ def read(path):
         return f.read()
 
 
-class Function:
-    """What the check has to be shown of a function, and the code that it is of."""
+class Code:
+    """A function as its source has it: its parameters, the clauses that it requires, each a name and a text, and its body."""
 
     def __init__(self, crate, name):
-        base = f'target/gen/Rattle·{crate}·proofs/proofs/{name}/'
-        if not os.path.exists(base + 'Lts.antt'):
-            sys.exit(f'{base} is not there: rt dev {crate} --generated target/gen')
-        lts, tie = read(base + 'Lts.antt'), read(base + 'Tie.antt')
-        self.records, self.places = {}, {}
-        for m in re.finditer(r'^ +pub record (\S+) : Type 0 where\n((?: +pub .*\n(?:(?! +pub| *\n).*\n)*)+)', lts, flags=re.M):
-            self.records[m.group(1)] = re.findall(r'^ +pub (\S+) : *(\S*)', m.group(2), flags=re.M)
-        for m in re.finditer(r'^ +Need-(\S+) =\s*\n?\s*\(c : (\S+)\)', lts, flags=re.M):
-            self.places.setdefault(m.group(1), m.group(2))
-        spec = tie[tie.index('pub spec :'):]
-        self.needs = re.findall(r'Need-([\w·-]+)', spec[:spec.index('spec =')])
-        source = read(f'crates/{crate}/src/lib.rt')
-        m = re.search(r'^(?:pub )?fn %s\(.*?^\}' % name, source, flags=re.M | re.S)
-        text = m.group(0)
-        self.requires = re.findall(r'requires \{ ⌜ (.*) ⌝ \}', text)
-        self.body = text[text.index('\n{'):]
-        self.others = {}
-        for m in re.finditer(r'^(?:pub )?fn (\w+)\((.*?)^\{', source, flags=re.M | re.S):
-            self.others[m.group(1)] = re.findall(r'requires \{ ⌜ (.*) ⌝ \}', m.group(2))
-        m = re.search(r'\(count - (\d)\)', text)
-        self.told = int(m.group(1)) if m else 0
+        source = '\n'.join(read(path) for path in sorted(glob.glob(f'crates/{crate}/src/*.rt')))
+        # the brace of a body stands on its own line, where clauses stand before it
+        m = re.search(rf'^(?:pub )?fn {name}\(((?:(?!^\}}).)*?)^\{{\n(.*?)^\}}', source, flags=re.M | re.S)
+        if not m:
+            sys.exit(f'no function {name} with clauses in crates/{crate}/src')
+        head, self.body = m[1], m[2]
+        self.params = re.findall(r'(\w+): ', head.split('\n    requires')[0].split('\n    ensures')[0])
+        self.requires = re.findall(r'^    requires (\w*) ?\{ (.*) \}$', head, flags=re.M)
 
-    def chain(self, place):
-        """The places from here back to the entry, each with what was bound there."""
-        out = []
-        while place in self.records:
-            fields = dict(self.records[place])
-            own = [n for n, _ in self.records[place] if n != 'before']
-            out.append((place, own))
-            place = fields.get('before')
-        return out
-
-    def depth(self, place, thing):
-        for d, (_, own) in enumerate(self.chain(place)):
-            if thing in own:
-                return d
-        names = ', '.join(n for _, own in self.chain(place) for n in own)
-        sys.exit(f'no {thing} at {place}; there are {names}')
-
-    def args(self, callee, k):
-        """The arguments of the k-th call of callee in the body."""
-        calls = [m.end() for m in re.finditer(r'\b%s\(' % callee.replace('-', '_'), self.body)]
-        level, out, word = 0, [], ''
-        for ch in self.body[calls[k]:]:
-            if ch == ')' and level == 0:
-                break
-            level += (ch in '([') - (ch in ')]')
-            if ch == ',' and level == 0:
-                out.append(word.strip())
-                word = ''
-            else:
-                word += ch
-        return out + [word.strip()]
+    def calls(self, callee):
+        """The arguments of each call of a function, in the order in which the calls are made: an inner one before the outer one."""
+        made = []
+        for m in re.finditer(rf'\b{callee}\(', self.body):
+            depth, words = 0, ['']
+            for at in range(m.end(), len(self.body)):
+                ch = self.body[at]
+                depth += (ch in '([{') - (ch in ')]}')
+                if depth < 0:
+                    break
+                if ch == ',' and depth == 0:
+                    words.append('')
+                else:
+                    words[-1] += ch
+            made.append((at, [w.strip() for w in words]))
+        return [words for _, words in sorted(made)]
 
 
-def wrapped(line):
-    """A long line, broken before an argument."""
-    if len(line) <= WIDTH:
-        return line
-    if line.startswith('use '):
-        head, names = line[:-1].split('{')
-        cut = names.rfind(', ', 0, WIDTH - len(head))
-        return head + '{' + names[:cut] + '}\n' + wrapped(head + '{' + names[cut + 2:] + '}')
-    at = max(line.rfind(') (', 0, WIDTH), line.rfind(', ', 0, WIDTH)) + 1
-    return line if at < 20 else line[:at] + '\n' + wrapped('        ' + line[at + 1:])
+def bracketed(words):
+    return words[0] if len(words) == 1 else '(' + ' '.join(words) + ')'
+
+
+def record(clauses):
+    return 'record {\n' + ''.join(f'      {name} = {said};\n' for name, said in clauses) + '    }'
 
 
 class Writer:
-    def __init__(self, crate, name, plan):
+    def __init__(self, crate, name, plan, names):
         self.crate, self.name, self.plan = crate, name, plan
-        self.fn = Function(crate, name)
-        self.helpers, self.used = {}, set()
+        self.code = Code(crate, name)
+        self.goals = [(old, goal, place) for (old, goal), (place, _) in zip(names['needs'], names['asked_at'])]
+        self.parents = {place[0]: place[1] for place in names['places']}
+        self.steps = {place[0]: place[2][1] for place in names['places']}
+        self.callees = {place[2][1]: place[3] for place in names['places'] if place[3]}
+        # what the function is given, its dimension, the bound of that, and how many answers it starts from
+        self.given = self.own('Given ')
+        self.sized = self.own('Sized ') or (self.given and self.given + '.sized')
+        self.small = self.own('n ≤ 16') or (self.sized and self.sized + '.small')
+        self.told = sum(int(text.split()[0]) for _, text in self.code.requires if text.endswith('≤ count'))
+        # what the plan says and no goal has taken up yet
+        self.left = {*plan['goals'], *plan['returns']}
 
-    # ---- paths
-    def start(self, place, c='c'):
-        """The entry, from c at a place."""
-        chain = self.fn.chain(place)
-        d = len(chain) - 1
-        rest = d % STEP if d > STEP else d
-        if d <= STEP:
-            return c + ' .before' * d
-        self.helper(chain[rest:])
-        inner = c + ' .before' * rest
-        return f'{self.label(chain[rest][0])} {inner}' if rest == 0 else f'{self.label(chain[rest][0])} ({inner})'
+    def stop(self, text):
+        sys.exit(f'{self.crate}::{self.name}: {text}')
 
-    def label(self, place):
-        return 'start-' + re.sub(r'^After-', '', place).lower()
+    def own(self, text):
+        """The function's own clause that begins like that."""
+        for clause, said in self.code.requires:
+            if said.startswith(text):
+                return 'c.requires' if len(self.code.requires) == 1 else 'c.requires.' + clause
+        return None
 
-    def helper(self, chain):
-        place, d = chain[0][0], len(chain) - 1
-        if place in self.helpers or d == 0:
-            return
-        if d > STEP:
-            self.helper(chain[STEP:])
-            body = f'{self.label(chain[STEP][0])} (c' + ' .before' * STEP + ')'
-        else:
-            body = 'c' + ' .before' * d
-        self.helpers[place] = f'abbrev {self.label(place)} : tie.{place} → tie.Start\n{self.label(place)} c = {body}'
+    def said(self, goal):
+        """What the plan says of a goal or of a clause of it."""
+        self.left.discard(goal)
+        return self.plan['goals'].get(goal)
 
-    def given(self, place, c='c'):
-        r = self.fn.requires
-        at = self.start(place, c) + ' .pre' + (' .0' if len(r) > 1 else '')
-        return at
+    # ---- what a call requires
 
-    def sized(self, place):
-        return self.given(place) + (' .sized' if self.fn.requires[0].startswith('Given') else '')
+    def called(self, old, goal, place):
+        """What a call requires, clause by clause; None where it requires nothing. The goal's old name tells the callee and which of its calls it is."""
+        name, count = re.match(r'(\w+)-requires(?:-(\d+))?$', old).groups()
+        crate = next(callee.split('::')[0] for callee in self.callees.values() if callee.endswith('::' + name))
+        callee = Code(crate, name) if os.path.isdir(f'crates/{crate}') else None
+        if not callee or not callee.requires:
+            return None
+        args = dict(zip(callee.params, self.code.calls(name)[int(count or 1) - 1]))
+        clauses = [clause for clause, _ in callee.requires]
+        said = {clause: self.said(f'{goal}.{clause}') for clause in clauses}
+        if 'answers_len' in clauses and self.given and not any(said.values()):
+            answer = 'plain_answer' if 'sized' not in clauses else 'answer_' + (args['j'].replace('first', '').strip(' +') or '0')
+            last = len(clauses) - 1
+            parts = ['p' + '.1' * i + ('.0' if i < last else '') for i in range(len(clauses))]
+            return f'let p = {answer} {self.given} in ' + record(zip(clauses, parts))
+        terms = []
+        for clause, text in callee.requires:
+            term = said[clause] or self.clause(text, args, place)
+            terms.append((clause, term or self.stop(f'the plan has to say {goal}' + (f'.{clause}' if len(clauses) > 1 else ''))))
+        return terms[0][1] if len(terms) == 1 else record(terms)
 
-    def small(self, place):
-        return self.given(place) if self.fn.requires[0].startswith('n ≤') else self.sized(place) + ' .small'
+    def clause(self, text, args, place):
+        if text.startswith('Given '):
+            return self.given
+        if text.startswith('Sized '):
+            return self.sized
+        if text == 'n ≤ 16':
+            return self.small
+        if text == '(n ≤ 16) × (length m.now ≡ n * n)':
+            return f'matrix_of {self.sized}'
+        if text == '(1 ≤ order) × (order ≤ 4)':
+            return f'order_{args["order"]}'
+        if text.endswith('≤ count'):
+            return f'omega (arith, c.{self.test(place)}.false' + (', c.requires' if self.told else '') + ')'
+        return None
 
-    # ---- a term with @THING in it: lets for the places that it names
-    def term(self, place, text, indent):
-        chain = self.fn.chain(place)
-        last = len(chain) - 1
-        things = re.findall(r'@([\w·₀-₉-]+)', text)
-        depths = sorted({last if t in ('args', 'pre') else self.fn.depth(place, t) for t in things})
-        names, lets, at, now = {0: 'c'}, [], 0, 'c'
-        for d in depths:
-            while d - at > STEP:
-                at += STEP
-                lets.append(f'let {self.point(chain, at)} = {now}' + ' .before' * STEP + ' in')
-                now = self.point(chain, at)
-            if d > at:
-                lets.append(f'let {self.point(chain, d)} = {now}' + ' .before' * (d - at) + ' in')
-                at, now = d, self.point(chain, d)
-            names[d] = now
+    def test(self, place):
+        """The test in whose false branch a place stands."""
+        while place and not place.startswith('Else'):
+            place = self.parents[place]
+        return self.steps[place] if place else self.stop('no test before it')
 
-        def path(m):
-            t = m.group(1)
-            d = last if t in ('args', 'pre') else self.fn.depth(place, t)
-            return names[d] + ' .' + t
+    # ---- a return, line by line
 
-        return [indent + l for l in lets], re.sub(r'@([\w·₀-₉-]+)', path, text)
-
-    def point(self, chain, d):
-        own = chain[d][1]
-        return 'entry' if 'args' in own else 'at-' + own[0]
-
-    # ---- answers
-    def answer(self, need):
-        place = self.fn.places[need]
-        if need in self.plan['needs']:
-            text = self.plan['needs'][need]
-            for word, path in (('GIVEN', self.given), ('SIZED', self.sized), ('SMALL', self.small), ('START', self.start)):
-                if word in text:
-                    text = text.replace(word, path(place))
-            lets, t = self.term(place, text, '        ')
-            head = 'λ c κs.' if 'requires' in need else 'λ c.'
-            return f'({head} {t})' if not lets else f'({head}\n' + '\n'.join(lets) + f'\n        {t})'
-        m = re.match(r'([\w-]+?)-requires(?:-(\d+))?$', need)
-        if not m:
-            return f'(λ c. omega (arith, {self.given(place)} .early))'
-        callee, k = m.group(1), int(m.group(2) or 1) - 1
-        if callee in PHI:
-            order = self.fn.args(callee, k)[PHI[callee]]
-            t = f'({self.sized(place)}, order-{order})'
-        elif callee in ('exp-action', 'a52-of'):
-            t = self.sized(place)
-        elif callee in SMALL:
-            t = self.small(place)
-        elif callee == 'mat-vec':
-            t = f'matrix-of ({self.sized(place)})'
-        elif callee == 'evaluated':
-            t = f'plain-answer ({self.given(place)})'
-        elif callee in ('shifted-stage', 'remainder'):
-            j = self.fn.args(callee, k)[{'shifted-stage': 4, 'remainder': 5}[callee]]
-            t = f'answer-{j[8:] if "+" in j else 0} ({self.given(place)})'
-        elif callee in NONE:
-            t = 'tt'
-        elif callee.replace('-', '_') in self.fn.others:
-            r = self.fn.others[callee.replace('-', '_')]
-            if len(r) == 1:
-                t = self.given(place)
-            elif len(r) == 2 and r[1].endswith('≤ count'):
-                lets, cond = self.term(place, 'omega (arith, @if1 .left' + (', @pre' if self.fn.told else '') + ')', '        ')
-                return '(λ c κs.\n' + '\n'.join(lets) + f'\n        ({self.given(place)}, {cond}))'
-            else:
-                sys.exit(f'{self.name}: the plan has to say {need}')
-        else:
-            sys.exit(f'{self.name}: the plan has to say {need}')
-        return f'(λ c κs. {t})'
-
-    def ensures(self, word):
-        """x: what the call x ensures; x<y: the same, with what y ensures of its last argument; x|y,z: with what y and z ensure put in."""
+    def fact(self, word):
+        """X: what the call X ensures; X<Y: the same, with what Y ensures of its last argument; X|Y,Z: with what Y and Z ensure put in."""
         if word == 'refl':
             return word
         if '|' in word:
             x, ys = word.split('|')
-            return f'(rw ({", ".join(f"@{y} .ensures" for y in ys.split(","))}) at (@{x} .ensures))'
+            ys = [f'c.{y}.ensures' for y in ys.split(',')]
+            return f'(rw {ys[0] if len(ys) == 1 else "(" + ", ".join(ys) + ")"} at c.{x}.ensures)'
         if '<' not in word:
-            return f'(@{word} .ensures)'
+            return f'c.{word}.ensures'
         x, y = word.split('<', 1)
-        base = re.sub(r'\d+$', '', x)
-        self.used.add(base)
-        return f'(@{x} .ensures ∙ ap ({AP[base]}) {self.ensures(y)})'
+        crate, callee = self.callees[x].split('::')
+        before = ' _' * (len(Code(crate, callee).params) - 1)
+        return f'(c.{x}.ensures ∙ ap ({callee}{before}) {self.fact(y)})'
 
-    def line(self, words):
-        e, told = self.ensures, self.fn.told
+    def line(self, words, passed):
+        """The law of a line, where the pass has been given so many answers."""
         verb, rest = words[0], words[1:]
-        if verb == 'begin':
-            return 'begin _ _ _ _ _'
-        if verb == 'go':
-            return 'go-on _ _ _ _ _ _'
-        if verb == 'by':
-            return f'rw (@{rest[0]} .{rest[1]})'
-        if verb == 'now':
-            return f'at-once _ _ _ {e(rest[0])}'
-        if verb == 'now-by':
-            return f'at-once _ _ _ ({" ".join(rest)})'
-        if verb == 'check':
-            return f'checked-line _ _ _ {e(rest[0])}'
-        if verb == 'check-by':
-            return f'checked-line _ _ _ ({" ".join(rest)})'
+        if verb in LAWS and len(rest) == LAWS[verb][1]:
+            return ' '.join([LAWS[verb][0]] + [self.fact(word) for word in rest])
+        if verb in BY:
+            law, count = BY[verb]
+            return ' '.join([law, bracketed(rest[count - 1:])] + [self.fact(word) for word in rest[:count - 1]])
         if verb in ('wanted', 'wanted-by'):
             m = int(rest[0])
-            fact = e(rest[1]) if verb == 'wanted' else f'({" ".join(rest[1:])})'
-            return f'wanted-line {m} {m + self.passed} (@args .count) _ _ _ {fact} (λ few. omega arith) (λ x y. unfold _>>=_ also in {"both-ask (λ r. " * m}unasked{")" * m})'
-        if verb == 'over':
-            return f'over-line _ _ _ _ _ {e(rest[0])} {e(rest[1])}'
-        if verb == 'over-by':
-            return f'over-line _ _ _ _ _ ({" ".join(rest[1:])}) {e(rest[0])}'
-        if verb == 'plain':
-            return f'over-plain _ _ _ _ _ {e(rest[0])} {e(rest[1])}'
-        if verb == 'plain-by':
-            return f'over-plain _ _ _ _ _ {e(rest[0])} ({" ".join(rest[1:])})'
-        if verb == 'first':
-            return f'first-part _ _ _ {e(rest[0])}'
-        if verb == 'first-by':
-            return f'first-part _ _ _ ({" ".join(rest)})'
-        if verb == 'first-over':
-            return f'first-over _ _ _ _ _ {e(rest[0])} {e(rest[1])}'
-        if verb == 'first-over-by':
-            return f'first-over _ _ _ _ _ ({" ".join(rest[1:])}) {e(rest[0])}'
-        if verb == 'part':
-            return f'next-part _ _ _ _ {e(rest[0])}'
-        if verb == 'part-by':
-            return f'next-plain _ _ _ _ ({" ".join(rest)})'
-        if verb == 'made':
-            return f'next-made _ _ _ _ _ {e(rest[0])} {e(rest[1])}'
-        if verb == 'made-by':
-            return f'next-made _ _ _ _ _ ({" ".join(rest[1:])}) {e(rest[0])}'
-        if verb == 'part-now':
-            return f'part-now _ _ _ {e(rest[0])}'
-        if verb == 'sum':
-            return 'summed _ _'
-        if verb == 'alone':
-            return 'alone _ _'
-        if verb == 'report':
-            return f'reported _ {e(rest[0])}'
+            fact = self.fact(rest[1]) if verb == 'wanted' else bracketed(rest[1:])
+            unused = 'both_ask (λ r. ' * m + 'unasked' + ')' * m
+            return f'wanted_line {m} {m + passed} c.args.count _ _ _ {fact} (λ few. omega arith) (λ x y. unfold ◌>>=◌ also in {unused})'
         if verb == 'open':
-            zero = f'(omega (arith, @{rest[1]} .taken))' if told else f'(@{rest[1]} .taken)'
-            return f'open-line _ _ _ _ _ {e(rest[0])} {zero} {e(rest[2])}'
+            none = f'(omega (arith, c.{rest[1]}.true))' if self.told else f'c.{rest[1]}.true'
+            return f'open_line _ _ _ _ _ {self.fact(rest[0])} {none} {self.fact(rest[2])}'
         if verb == 'answered':
-            some = f'(omega (arith, @{rest[1]} .left, @pre))' if told else f'(@{rest[1]} .left)'
-            return f'answered-line _ _ _ _ _ _ _ {e(rest[0])} {some} {e(rest[2])} refl'
-        if verb == 'hand-all':
-            return f'handed-on (@{rest[0]} .ensures _ _ _)'
+            some = f'(omega (arith, c.{rest[1]}.false, c.requires))' if self.told else f'c.{rest[1]}.false'
+            return f'answered_line _ _ _ _ _ _ _ {self.fact(rest[0])} {some} {self.fact(rest[2])} refl'
         if verb == 'hand':
-            return f'handed-later _ _ {e(rest[0])} (omega arith) (omega arith)' if told else f'handed-on {e(rest[0])}'
+            return f'handed_later _ _ {self.fact(rest[0])} (omega arith) (omega arith)' if self.told else f'handed_on {self.fact(rest[0])}'
+        if verb == 'hand-all':
+            return f'handed_on ({self.fact(rest[0])} _ _ _)'
         if verb == 'end':
-            return f'last-line _ _ _ {e(rest[0])} {e(rest[1])}' if len(rest) > 1 else f'last-line _ _ _ refl {e(rest[0])}'
-        sys.exit(f'{self.name}: no such line: {" ".join(words)}')
+            return 'last_line _ _ _ ' + ' '.join(self.fact(word) for word in (['refl'] + rest)[-2:])
+        if verb == 'by':
+            return f'rw c.{rest[0]}.{rest[1]}'
+        return self.stop(f'no such line: {" ".join(words)}')
 
-    def returns(self, need, lines):
-        place = self.fn.places[need]
-        heads = [l for l in lines if l[0] == 'for-all']
+    def returned(self, lines):
         if lines[0][0] == '=':
-            text = '\n'.join('    ' + ' '.join(l[1:]) for l in lines)
-        else:
-            laws, self.passed = [], self.fn.told
-            for l in lines:
-                if l[0] != 'for-all':
-                    laws.append(self.line(l))
-                    self.passed += l[0] == 'answered'
-            text = '\n'.join('    ' + ('(' if i else '') + l for i, l in enumerate(laws)) + ')' * (len(laws) - 1)
-        lets, t = self.term(place, text, '    ')
-        if heads:
-            lets.append('    λ ' + ' '.join(heads[0][1:]) + '.')
-        unfold = f'unfolding {" ".join(self.plan["unfold"])}\n' if self.plan['unfold'] else ''
-        return f'{need} : tie.Need-{need}\n{unfold}{need} c =\n' + '\n'.join(lets + [t]) + '\n'
+            return '\n    '.join(' '.join(words[1:]) for words in lines)
+        laws, head, passed = [], '', self.told
+        for words in lines:
+            if words[0] == 'for-all':
+                head = 'λ ' + ' '.join(words[1:]) + '.\n    '
+            else:
+                laws.append(self.line(words, passed))
+                passed += words[0] == 'answered'
+        return head + '\n    ('.join(laws) + ')' * (len(laws) - 1)
 
-    def write(self):
-        plan = self.plan
-        parts = [self.returns(n, ls) for n, ls in plan['returns']]
-        answers = [n if n in dict(plan['returns']) else self.answer(n) for n in self.fn.needs]
-        spec = self.name.replace('_', '-') + '-spec'
-        unfold = f'unfolding {" ".join(plan["unfold"])}\n' if plan['needs'] and plan['unfold'] else ''
-        body = '\n'.join(parts) + f'\npub {spec} : {{M : Type 1}} → statement M\n{unfold}{spec} =\n    tie.close\n    (tie.spec\n' + '\n'.join('    ' + a for a in answers) + ')\n'
-        if self.helpers:
-            body = '-- the entry, from later places\n' + '\n\n'.join(self.helpers.values()) + '\n\n' + body.lstrip('\n')
-        words = set(re.findall(r'[^\s(),]+', body))
-        uses = []
-        if 'arith' in words:
-            uses.append('use native.Mathlib.Omega.{arith}')
-        path = [w for w in ('_≡_', 'refl', 'sym', 'ap', '_∙_') if w.strip('_') in words or w in words]
-        if path:
-            uses.append('use mathlib.Core.Path.{' + ', '.join(path) + '}')
-        uses += plan['uses']
-        own = self.crate == 'methods'
-        specs, proofs = ('Rattle·methods·specs.specs', 'Rattle·methods·proofs.proofs') if own else ('Rattle·methods.specs', 'Rattle·methods.proofs')
-        vectors = [w for w in ('add', 'subtract', 'axpy', 'scale') if w in words]
-        if vectors:
-            uses.append(f'use {specs}.Vectors.{{' + ', '.join(vectors) + '}')
-        if 'unfold' in words:
-            uses.append(f'use {specs}.Pass.{{also, _>>=_}}')
-        laws = [w for w in LINES if w in words]
-        if laws:
-            uses.append(f'use {proofs}.Lines.{{' + ', '.join(laws) + '}')
-        laws = [w for w in REQUIRES if w in words]
-        if laws:
-            uses.append(f'use {proofs}.Requires.{{' + ', '.join(laws) + '}')
-        head = f'-- `{self.crate}::{self.name}`: {plan["about"]}. Assumes nothing.\n' + '\n'.join(uses)
-        body = body.lstrip('\n')
-        head += f'\nuse Rattle·{self.crate}·proofs.proofs.{self.name}.Statement.{{statement}}\nuse Rattle·{self.crate}·proofs.proofs.{self.name}.Tie as tie\n\n'
-        path = f'crates/{self.crate}/proofs/{self.name}'
-        os.makedirs(path, exist_ok=True)
-        with open(path + '/Proof.antt', 'w', encoding='utf8') as f:
-            f.write('\n'.join(wrapped(l) for l in (head + body).split('\n')))
+    # ---- the file
+
+    def answer(self, old, goal, place):
+        """A goal's answer; None where the check finds it by itself."""
+        if goal in self.plan['returns']:
+            self.left.discard(goal)
+            return self.returned(self.plan['returns'][goal])
+        if goal in self.plan['goals']:
+            return self.said(goal)
+        if old.startswith('returns'):
+            return self.stop(f'the plan has to say {goal}')
+        if '-requires' in old:
+            return self.called(old, goal, place)
+        return f'omega (arith, {self.given}.early)' if goal.startswith('overflow_') and self.given else None
+
+    def text(self):
+        plan, parts = self.plan, []
+        for old, goal, place in self.goals:
+            term = self.answer(old, goal, place)
+            if term:
+                opens = plan['unfold'] and (goal in plan['returns'] or plan['goals'])
+                unfolding = f'unfolding {" ".join(plan["unfold"])}\n' if opens else ''
+                whole = f'{goal} c = {term}'
+                if '\n' in term or len(whole) > WIDTH:
+                    whole = f'{goal} c =\n    {term}'
+                parts.append(f'\npub {goal} : goal.{goal}\n{unfolding}{whole}\n')
+        if self.left:
+            self.stop(f'no goal {", ".join(self.left)}; there are {", ".join(goal for _, goal, _ in self.goals)}')
+        body = ''.join(parts)
+        steps = [step for step in self.steps.values() if step]
+        for step in re.findall(r'\bc\.([^\s.(),;]+)', body):
+            if step not in [*steps, 'args', 'requires']:
+                self.stop(f'no step {step}; there are {", ".join(steps)}')
+        words = set(re.findall(r'[^\s(),;]+', body))
+        library, ours = [], []
+        for module, names in CITED.items():
+            cited = [name for name in names.split() if name.strip('◌') in words or name in words]
+            if cited:
+                (ours if module.startswith('Rattle.') else library).append(f'use {module}.{{{", ".join(cited)}}}')
+        uses = library + plan['uses'] + ours + [f'use Rattle.{self.crate}.proofs.{self.name}.Goals as goal']
+        return f'-- `{self.crate}::{self.name}`: {plan["about"]}. Assumes nothing.\n' + '\n'.join(uses) + '\n' + body
 
 
 def plans(crate):
-    out, fn, need = {}, None, None
-    for raw in read(f'tools/plans/{crate}.txt').split('\n'):
-        line = raw.strip()
-        if not line or line.startswith('#'):
-            continue
+    """The plan of each function."""
+    out = {}
+    for line in read(f'tools/plans/{crate}.txt').split('\n'):
         words = line.split()
-        if words[0] == 'fn':
-            name, about = line[3:].split(':', 1)
-            fn = out[name] = {'about': about.strip(), 'unfold': [], 'uses': [], 'needs': {}, 'returns': []}
+        if not words or line.startswith('#'):
+            continue
+        if line.startswith(' '):
+            lines.append(words)
+        elif words[0] == 'fn':
+            name, about = line[3:].split(': ', 1)
+            plan = out[name] = {'about': about, 'unfold': [], 'uses': [], 'goals': {}, 'returns': {}}
         elif words[0] == 'unfold':
-            # MODULE: NAME NAME ..
-            module, names = line[7:].split(':', 1)
-            fn['unfold'] += names.split()
-            fn['uses'].append(f'use {module}.{{{", ".join(names.split())}}}')
+            module, names = line[7:].split(': ')
+            plan['unfold'] += names.split()
+            plan['uses'].append(f'use {module}.{{{", ".join(names.split())}}}')
         elif words[0] == 'use':
-            fn['uses'].append(line)
-        elif words[0] == 'need':
-            name, text = line[5:].split(':', 1)
-            fn['needs'][name] = text.strip()
-        elif re.match(r'returns(-\d+)?$', line):
-            need = []
-            fn['returns'].append((line, need))
+            plan['uses'].append(line)
+        elif words[0] == 'goal':
+            name, term = line[5:].split(': ', 1)
+            plan['goals'][name] = term
         else:
-            need.append(words)
+            lines = plan['returns'][line] = []
     return out
 
 
 def main(argv):
     if len(argv) < 2:
         sys.exit(__doc__)
-    if argv[1] == 'stub':
-        crate = argv[2]
-        for name in plans(crate):
-            path = f'crates/{crate}/proofs/{name}'
-            if not os.path.exists(path + '/Proof.antt'):
-                os.makedirs(path, exist_ok=True)
-                spec = name.replace('_', '-') + '-spec'
-                with open(path + '/Proof.antt', 'w', encoding='utf8') as f:
-                    f.write(f'use Rattle·{crate}·proofs.proofs.{name}.Statement.{{statement}}\n'
-                            f'use Rattle·{crate}·proofs.proofs.{name}.Tie as tie\n\npub {spec} : {{M : Type 1}} → statement M\n{spec} = ?\n')
-    elif argv[1] == 'show':
-        fn = Function(argv[2], argv[3])
-        for n in fn.needs:
-            print(n, fn.places[n], ' '.join(w for _, own in fn.chain(fn.places[n]) for w in own))
-    else:
-        crate = argv[1]
-        for name, plan in plans(crate).items():
-            if len(argv) < 3 or name in argv[2:]:
-                Writer(crate, name, plan).write()
+    crate, wanted = argv[1], argv[2:]
+    path = f'target/gen/{crate}/names.json'
+    if not os.path.exists(path):
+        sys.exit(f'{path} is not there; in crates/{crate}: rt check --generated ../../target/gen/{crate} --old-names')
+    names = json.loads(read(path))
+    for name, plan in plans(crate).items():
+        if not wanted or name in wanted:
+            key = f'Rattle-{crate}-proofs.{name}.Lts'
+            if key not in names:
+                sys.exit(f'{path} has no {crate}::{name}')
+            text = Writer(crate, name, plan, names[key]).text()
+            folder = f'crates/{crate}/proofs/{name}'
+            os.makedirs(folder, exist_ok=True)
+            with open(folder + '/Answers.antt', 'w', encoding='utf8') as f:
+                f.write(text)
 
 
 main(sys.argv)
