@@ -145,7 +145,7 @@ hoch_ost4_2 p a au u2 =
       u3 ← now (add n p.state (scale n i3 h))
       hoch_ost4_3 p a au f2 u3
 
--- hochOst4's i5 as one action, where p1h is p1h f1 and sum23 is f2 + f3
+-- hoch_ost4's i5 as one action, where p1h is p1h f1 and sum23 is f2 + f3
 unfoldable pub sum5 : Point → List Float → Action → List Float → List Float → Action
 sum5 p a p1h sum23 f4 =
     let n = p.n in
@@ -163,7 +163,7 @@ a52_of n p2h p3 p2 p3h = combine_all n ((decimal 5 1, p2h) ∷ (minus 1, p3) ∷
 unfoldable pub a54_of : ℕ → Action → Action → Action
 a54_of n p2h inner = combine_all n ((decimal 25 2, p2h) ∷ (minus 1, inner) ∷ [])
 
--- hochOst4's phi terms of a vector with the coefficient 1, of the order k: at the whole step and at the half
+-- hoch_ost4's phi terms of a vector with the coefficient 1, of the order k: at the whole step and at the half
 abbrev pub whole : Point → List Float → ℕ → List Float → Action
 whole p a k = phi_term p.n a p.step k (num 1)
 

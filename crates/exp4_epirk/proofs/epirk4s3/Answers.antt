@@ -1,5 +1,4 @@
 -- `exp4_epirk::epirk4s3`: its pass, up to the question about u2. Assumes nothing.
--- the entry, from later places
 use native.Mathlib.Omega.{arith}
 use mathlib.Core.Path.{refl}
 use Rattle.methods.specs.Numbers.{numbers}
@@ -25,7 +24,7 @@ returns c =
     begin _ _ _ _ _
     (checked_line _ _ _ refl
     (alone _ _
-    (wanted_line 1 1 c.args.count _ _ _ (given) (λ few. omega arith) (λ x y. unfold ◌>>=◌ also in both_ask (λ r. unasked))
+    (wanted_line 1 1 c.args.count _ _ _ given (λ few. omega arith) (λ x y. unfold ◌>>=◌ also in both_ask (λ r. unasked))
     (reported _ c.joined-tally.ensures
     (at_once _ _ _ c.add-u2.ensures
     (at_once _ _ _ c.add-u3.ensures

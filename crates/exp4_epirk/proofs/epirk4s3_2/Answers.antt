@@ -1,5 +1,4 @@
 -- `exp4_epirk::epirk4s3_2`: its pass from the question about u2 on. Assumes nothing.
--- the entry, from later places
 use native.Mathlib.Omega.{arith}
 use mathlib.Core.Path.{refl}
 use Rattle.methods.specs.Numbers.{numbers}

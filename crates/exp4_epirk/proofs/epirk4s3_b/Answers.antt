@@ -1,5 +1,4 @@
 -- `exp4_epirk::epirk4s3_b`: the second variant's phi terms. Assumes nothing.
--- the entry, from later places
 use Rattle.methods.specs.Numbers.{numbers}
 use Rattle.methods.specs.Schemes.{epirk4s3_b}
 use Rattle.methods.proofs.Requires.{order_2}

@@ -1,5 +1,4 @@
 -- `exp4_epirk::epirk5p`: its pass, up to the question about u1. Assumes nothing.
--- the entry, from later places
 use native.Mathlib.Omega.{arith}
 use Rattle.methods.specs.Numbers.{numbers}
 use Rattle.methods.specs.Schemes.{epirk5p}
@@ -51,11 +50,9 @@ returns c =
     begin _ _ _ _ _
     (checked_line _ _ _ c.phi_term-k11.ensures
     (alone _ _
-    (wanted_line 1 1 c.args.count _ _ _ c.phi_term_if-k21.ensures (λ few. omega arith)
-    (λ x y. unfold ◌>>=◌ also in both_ask (λ r. unasked))
+    (wanted_line 1 1 c.args.count _ _ _ c.phi_term_if-k21.ensures (λ few. omega arith) (λ x y. unfold ◌>>=◌ also in both_ask (λ r. unasked))
     (reported _ c.joined.ensures
-    (wanted_line 2 2 c.args.count _ _ _ c.phi_term_if-k31.ensures (λ few. omega arith)
-    (λ x y. unfold ◌>>=◌ also in both_ask (λ r. both_ask (λ r. unasked)))
+    (wanted_line 2 2 c.args.count _ _ _ c.phi_term_if-k31.ensures (λ few. omega arith) (λ x y. unfold ◌>>=◌ also in both_ask (λ r. both_ask (λ r. unasked)))
     (reported _ c.joined-tally.ensures
     (at_once _ _ _ c.add-u1.ensures
     (handed_on c.epirk5p_1.ensures))))))))

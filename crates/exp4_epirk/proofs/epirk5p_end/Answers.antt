@@ -1,5 +1,4 @@
 -- `exp4_epirk::epirk5p_end`: its end, in either variant. Assumes nothing.
--- the entry, from later places
 use mathlib.Core.Path.{refl}
 use Rattle.matrix.specs.Vector.{zeros}
 use Rattle.methods.specs.Numbers.{numbers}
@@ -29,10 +28,11 @@ pub more-s-requires : goal.more-s-requires
 more-s-requires c = c.requires.small
 
 pub phi_action-requires-then-variant_2 : goal.phi_action-requires-then-variant_2
-phi_action-requires-then-variant_2 c = record {
-  sized = c.requires;
-  le_order = order_3;
-}
+phi_action-requires-then-variant_2 c =
+    record {
+      sized = c.requires;
+      le_order = order_3;
+    }
 
 pub more-s-requires-then-variant_2 : goal.more-s-requires-then-variant_2
 more-s-requires-then-variant_2 c = c.requires.small

@@ -1,5 +1,4 @@
 -- `exp4_epirk::epirk5s3`: its pass, up to the question about u2. Assumes nothing.
--- the entry, from later places
 use Rattle.methods.specs.Numbers.{numbers}
 use Rattle.methods.specs.Schemes.{epirk5s3}
 use Rattle.exp4_epirk.specs.Stages.{epirk5s3_2, epirk5s3_3}

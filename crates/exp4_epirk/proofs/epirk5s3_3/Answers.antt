@@ -1,5 +1,4 @@
 -- `exp4_epirk::epirk5s3_3`: its pass from the question about u3 on. Assumes nothing.
--- the entry, from later places
 use native.Mathlib.Omega.{arith}
 use mathlib.Core.Path.{refl}
 use Rattle.matrix.specs.Vector.{zeros}

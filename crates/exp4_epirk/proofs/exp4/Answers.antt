@@ -1,5 +1,4 @@
 -- `exp4_epirk::exp4`: its pass, up to the question about u4. Assumes nothing.
--- the entry, from later places
 use mathlib.Core.Path.{ap, ◌∙◌}
 use Rattle.methods.specs.Numbers.{numbers}
 use Rattle.methods.specs.Schemes.{exp4}

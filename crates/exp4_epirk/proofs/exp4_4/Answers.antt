@@ -1,5 +1,4 @@
 -- `exp4_epirk::exp4_4`: its pass from the question about u4 on. Assumes nothing.
--- the entry, from later places
 use native.Mathlib.Omega.{arith}
 use mathlib.Core.Path.{refl, ap, ◌∙◌}
 use Rattle.methods.specs.Numbers.{numbers}

@@ -1,5 +1,4 @@
 -- `exp4_epirk::exp4_7`: its pass from the question about u7 on. Assumes nothing.
--- the entry, from later places
 use native.Mathlib.Omega.{arith}
 use mathlib.Core.Path.{refl, ap, ◌∙◌}
 use Rattle.matrix.specs.Vector.{zeros}

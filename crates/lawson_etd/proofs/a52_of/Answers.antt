@@ -1,5 +1,4 @@
 -- `lawson_etd::a52_of`: its four phi terms, and what is made of them. Assumes nothing.
--- the entry, from later places
 use Rattle.methods.specs.Numbers.{numbers}
 use Rattle.lawson_etd.proofs.HochOst.{a52_made}
 use Rattle.methods.proofs.Requires.{order_2, order_3}

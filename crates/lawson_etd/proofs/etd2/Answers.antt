@@ -1,5 +1,4 @@
 -- `lawson_etd::etd2`: its pass, line by line, with and without a history. Assumes nothing.
--- the entry, from later places
 use mathlib.Core.Path.{refl}
 use Rattle.matrix.specs.Vector.{zeros}
 use Rattle.methods.specs.Numbers.{numbers}
@@ -19,16 +18,18 @@ add_term-k-requires c =
     }
 
 pub add_term-k-requires-then-held : goal.add_term-k-requires-then-held
-add_term-k-requires-then-held c = record {
-  sized = c.requires;
-  le_order = order_2;
-}
+add_term-k-requires-then-held c =
+    record {
+      sized = c.requires;
+      le_order = order_2;
+    }
 
 pub add_term-k-requires-then-held-2 : goal.add_term-k-requires-then-held-2
-add_term-k-requires-then-held-2 c = record {
-  sized = c.requires;
-  le_order = order_2;
-}
+add_term-k-requires-then-held-2 c =
+    record {
+      sized = c.requires;
+      le_order = order_2;
+    }
 
 pub returns-then-held : goal.returns-then-held
 unfolding zeros numbers etd2

@@ -1,5 +1,4 @@
 -- `lawson_etd::etdrk2`: its pass, up to the question about u2. Assumes nothing.
--- the entry, from later places
 use Rattle.methods.specs.Schemes.{etdrk2}
 use Rattle.lawson_etd.specs.Stages.{etdrk2_2}
 use Rattle.methods.proofs.Lines.{begin, over_line, alone, handed_on}

@@ -1,5 +1,4 @@
 -- `lawson_etd::etdrk2_2`: its pass from the question about u2 on. Assumes nothing.
--- the entry, from later places
 use mathlib.Core.Path.{refl, ap, ◌∙◌}
 use Rattle.matrix.specs.Vector.{zeros}
 use Rattle.methods.specs.Numbers.{numbers}

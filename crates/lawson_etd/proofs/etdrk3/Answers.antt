@@ -1,5 +1,4 @@
 -- `lawson_etd::etdrk3`: its pass, up to the question about u2. Assumes nothing.
--- the entry, from later places
 use Rattle.methods.specs.Numbers.{numbers}
 use Rattle.methods.specs.Schemes.{etdrk3}
 use Rattle.lawson_etd.specs.Stages.{etdrk3_2, etdrk3_3}

@@ -1,5 +1,4 @@
 -- `lawson_etd::etdrk3_2`: its pass from the question about u2 on. Assumes nothing.
--- the entry, from later places
 use native.Mathlib.Omega.{arith}
 use mathlib.Core.Path.{refl}
 use Rattle.methods.specs.Numbers.{numbers}

@@ -1,5 +1,4 @@
 -- `lawson_etd::etdrk3_3`: its pass from the question about u3 on. Assumes nothing.
--- the entry, from later places
 use native.Mathlib.Omega.{arith}
 use mathlib.Core.Path.{refl}
 use Rattle.matrix.specs.Vector.{zeros}

@@ -1,5 +1,4 @@
 -- `lawson_etd::etdrk4`: its pass, up to the question about u2. Assumes nothing.
--- the entry, from later places
 use Rattle.methods.specs.Numbers.{numbers}
 use Rattle.methods.specs.Schemes.{etdrk4}
 use Rattle.lawson_etd.specs.Stages.{etdrk4_2, etdrk4_3, etdrk4_4}

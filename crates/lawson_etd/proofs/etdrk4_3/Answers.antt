@@ -1,5 +1,4 @@
 -- `lawson_etd::etdrk4_3`: its pass from the question about u3 on. Assumes nothing.
--- the entry, from later places
 use native.Mathlib.Omega.{arith}
 use mathlib.Core.Path.{refl, ap, ◌∙◌}
 use Rattle.methods.specs.Numbers.{numbers}

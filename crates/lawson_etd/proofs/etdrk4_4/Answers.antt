@@ -1,5 +1,4 @@
 -- `lawson_etd::etdrk4_4`: its pass from the question about u4 on. Assumes nothing.
--- the entry, from later places
 use native.Mathlib.Omega.{arith}
 use mathlib.Core.Path.{refl}
 use Rattle.matrix.specs.Vector.{zeros}

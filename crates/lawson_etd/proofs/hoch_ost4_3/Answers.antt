@@ -1,5 +1,4 @@
 -- `lawson_etd::hoch_ost4_3`: its pass from the question about u3 on. Assumes nothing.
--- the entry, from later places
 use native.Mathlib.Omega.{arith}
 use mathlib.Core.Path.{refl, ap, ◌∙◌}
 use Rattle.methods.specs.Numbers.{numbers}
@@ -79,10 +78,7 @@ hoch_ost4_4-requires c =
       given = c.requires.given;
       le_count = omega (arith, c.if-count-eq1.false, c.requires.le_count);
       p1h_value = c.requires.p1h_value;
-      p1_value = (
-        c.phi_term-p1.ensures,
-        c.phi_term-p2.ensures,
-      );
+      p1_value = (c.phi_term-p1.ensures, c.phi_term-p2.ensures);
     }
 
 pub returns : goal.returns

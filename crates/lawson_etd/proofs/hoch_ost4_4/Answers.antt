@@ -1,5 +1,4 @@
 -- `lawson_etd::hoch_ost4_4`: its pass from the question about u4 on. Assumes nothing.
--- the entry, from later places
 use native.Mathlib.Omega.{arith}
 use mathlib.Core.Path.{refl, ap, ◌∙◌}
 use Rattle.methods.specs.Numbers.{numbers}
@@ -79,11 +78,7 @@ hoch_ost4_5-requires c =
     record {
       given = c.requires.given;
       le_count = omega (arith, c.if-count-eq2.false, c.requires.le_count);
-      p1_value = (
-        c.requires.p1_value.0,
-        c.requires.p1_value.1,
-        c.phi_term-p3.ensures,
-      );
+      p1_value = (c.requires.p1_value.0, c.requires.p1_value.1, c.phi_term-p3.ensures);
       g2_value = (c.phi_term-g2.ensures, c.phi_term-g3.ensures);
     }
 
@@ -93,10 +88,10 @@ returns c =
     go_on _ _ _ _ _ _
     (answered_line _ _ _ _ _ _ _ c.may_ask-tally.ensures (omega (arith, c.if-count-eq2.false, c.requires)) c.shifted_stage-f4.ensures refl
     (first-over _ _ _ _ _ c.requires.p1h_value.0 refl
-    (next_plain _ _ _ _ (refl)
-    (next_plain _ _ _ _ (refl)
+    (next_plain _ _ _ _ refl
+    (next_plain _ _ _ _ refl
     (part_now _ _ _ c.add-sum23.ensures
-    (next_plain _ _ _ _ (refl)
+    (next_plain _ _ _ _ refl
     (next_part _ _ _ _ c.hoch_ost4_sum-s5.ensures
     (summed _ _
     (reported _ c.joined-tally.ensures

@@ -1,5 +1,4 @@
 -- `lawson_etd::hoch_ost4_5`: its pass from the question about u5 on. Assumes nothing.
--- the entry, from later places
 use native.Mathlib.Omega.{arith}
 use mathlib.Core.Path.{refl, ap, ◌∙◌}
 use Rattle.matrix.specs.Vector.{zeros}

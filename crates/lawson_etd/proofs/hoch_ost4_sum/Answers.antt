@@ -1,5 +1,4 @@
 -- `lawson_etd::hoch_ost4_sum`: its combinations, one after the other. Assumes nothing.
--- the entry, from later places
 use Rattle.methods.specs.Numbers.{numbers}
 use Rattle.lawson_etd.specs.Stages.{sum5}
 use Rattle.lawson_etd.proofs.HochOst.{a52_made, a54_made}
@@ -61,11 +60,9 @@ more-requires c = c.requires.sized.small
 pub returns : goal.returns
 unfolding numbers sum5
 returns c =
-    let e52 = a52_made _ _ _ _ _ c.requires.p2h_value.0 _ _ _ _ c.requires.p2h_value.2 c.requires.p2h_value.1 c.phi_term-p3h.ensures
-    c.a52-k52.ensures in
+    let e52 = a52_made _ _ _ _ _ c.requires.p2h_value.0 _ _ _ _ c.requires.p2h_value.2 c.requires.p2h_value.1 c.phi_term-p3h.ensures c.a52-k52.ensures in
     let e54 = a54_made _ _ _ _ _ c.requires.p2h_value.0 _ _ e52 c.a54-k54.ensures in
-    let g52 = a52_made _ _ _ _ _ c.phi_term-g2h.ensures _ _ _ _ c.requires.g2_value.1 c.requires.g2_value.0 c.phi_term-g3h.ensures
-    c.a52.ensures in
+    let g52 = a52_made _ _ _ _ _ c.phi_term-g2h.ensures _ _ _ _ c.requires.g2_value.1 c.requires.g2_value.0 c.phi_term-g3h.ensures c.a52.ensures in
     let g54 = a54_made _ _ _ _ _ c.phi_term-g2h.ensures _ _ g52 c.a54-g54.ensures in
     let k1 = rw c.scaled-k.ensures at (more_of _ _ _ _ _ _ e52 c.more-k.ensures) in
     let k2 = more_both _ _ _ _ _ _ _ k1 e54 c.more-k-2.ensures in

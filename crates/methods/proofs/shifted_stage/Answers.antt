@@ -1,5 +1,4 @@
 -- `methods::shifted_stage`: a call after the other. Assumes nothing.
--- the entry, from later places
 use Rattle.methods.specs.Numbers.{numbers}
 use Rattle.methods.proofs.Requires.{matrix_of}
 use Rattle.methods.proofs.shifted_stage.Goals as goal

@@ -1,5 +1,4 @@
 -- `rosenbrock::exprb32`: its pass, up to the question about u2. Assumes nothing.
--- the entry, from later places
 use mathlib.Core.Path.{ap, ◌∙◌}
 use Rattle.methods.specs.Numbers.{numbers}
 use Rattle.methods.specs.Schemes.{exprb32}

@@ -1,5 +1,4 @@
 -- `rosenbrock::exprb32_2`: its pass from the question about u2 on. Assumes nothing.
--- the entry, from later places
 use mathlib.Core.Path.{refl}
 use Rattle.methods.specs.Numbers.{numbers}
 use Rattle.rosenbrock.specs.Stages.{exprb32_2}

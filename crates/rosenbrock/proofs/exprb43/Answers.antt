@@ -1,5 +1,4 @@
 -- `rosenbrock::exprb43`: its pass, up to the question about u2. Assumes nothing.
--- the entry, from later places
 use native.Mathlib.Omega.{arith}
 use mathlib.Core.Path.{ap, ◌∙◌}
 use Rattle.methods.specs.Numbers.{numbers}
@@ -54,14 +53,11 @@ returns c =
     begin _ _ _ _ _
     (checked_line _ _ _ c.phi_action-k1h.ensures
     (alone _ _
-    (wanted_line 2 2 c.args.count _ _ _ c.phi_if-k11.ensures (λ few. omega arith)
-    (λ x y. unfold ◌>>=◌ also in both_ask (λ r. both_ask (λ r. unasked)))
+    (wanted_line 2 2 c.args.count _ _ _ c.phi_if-k11.ensures (λ few. omega arith) (λ x y. unfold ◌>>=◌ also in both_ask (λ r. both_ask (λ r. unasked)))
     (reported _ c.joined.ensures
-    (wanted_line 2 2 c.args.count _ _ _ c.phi_if-k13.ensures (λ few. omega arith)
-    (λ x y. unfold ◌>>=◌ also in both_ask (λ r. both_ask (λ r. unasked)))
+    (wanted_line 2 2 c.args.count _ _ _ c.phi_if-k13.ensures (λ few. omega arith) (λ x y. unfold ◌>>=◌ also in both_ask (λ r. both_ask (λ r. unasked)))
     (reported _ c.joined-2.ensures
-    (wanted_line 2 2 c.args.count _ _ _ c.phi_if-k14.ensures (λ few. omega arith)
-    (λ x y. unfold ◌>>=◌ also in both_ask (λ r. both_ask (λ r. unasked)))
+    (wanted_line 2 2 c.args.count _ _ _ c.phi_if-k14.ensures (λ few. omega arith) (λ x y. unfold ◌>>=◌ also in both_ask (λ r. both_ask (λ r. unasked)))
     (reported _ c.joined-tally.ensures
     (at_once _ _ _ (c.add-u2.ensures ∙ ap (add _ _) c.scale.ensures)
     (handed_on c.exprb43_2.ensures))))))))))

@@ -1,5 +1,4 @@
 -- `rosenbrock::exprb43_2`: its pass from the question about u2 on. Assumes nothing.
--- the entry, from later places
 use native.Mathlib.Omega.{arith}
 use mathlib.Core.Path.{refl, ap, ◌∙◌}
 use Rattle.methods.specs.Numbers.{numbers}

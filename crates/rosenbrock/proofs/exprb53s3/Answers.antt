@@ -1,5 +1,4 @@
 -- `rosenbrock::exprb53s3`: its pass, up to the question about u2. Assumes nothing.
--- the entry, from later places
 use native.Mathlib.Omega.{arith}
 use Rattle.methods.specs.Numbers.{numbers}
 use Rattle.methods.specs.Schemes.{exprb53s3}
@@ -35,8 +34,7 @@ returns c =
     begin _ _ _ _ _
     (checked_line _ _ _ c.phi_term-k2.ensures
     (alone _ _
-    (wanted_line 1 1 c.args.count _ _ _ c.phi_term_if-k3base.ensures (λ few. omega arith)
-    (λ x y. unfold ◌>>=◌ also in both_ask (λ r. unasked))
+    (wanted_line 1 1 c.args.count _ _ _ c.phi_term_if-k3base.ensures (λ few. omega arith) (λ x y. unfold ◌>>=◌ also in both_ask (λ r. unasked))
     (reported _ c.joined-tally.ensures
     (at_once _ _ _ c.add-u2.ensures
     (handed_on c.exprb53s3_2.ensures))))))

@@ -1,5 +1,4 @@
 -- `schemes::lawson_etd_pass`: an arm for each number. Assumes nothing.
--- the entry, from later places
 use native.Mathlib.Omega.{arith}
 use Rattle.methods.specs.Step.{pass}
 use Rattle.schemes.proofs.lawson_etd_pass.Goals as goal

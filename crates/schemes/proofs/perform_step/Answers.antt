@@ -1,8 +1,8 @@
 -- `schemes::perform_step`: the two tests, and the scheme, whose counts fit 32 bits. Assumes nothing.
 use mathlib.Core.Path.{◌∙◌}
+use Rattle.methods.proofs.Shape.{step_fits}
 use Rattle.methods.specs.Step.{perform_step}
 use Rattle.methods.proofs.Requires.{matrix_of}
-use Rattle.methods.proofs.Shape.{step_fits}
 use Rattle.schemes.proofs.perform_step.Goals as goal
 
 pub mat_vec-au-requires : goal.mat_vec-au-requires
@@ -29,4 +29,5 @@ returns-then-good c =
 
 pub returns : goal.returns
 unfolding perform_step
-returns c = rw (← c.mat_vec-au.ensures, ← c.subtract-nonlinear0.ensures, ← c.all_finite.ensures, ← c.all_finite-2.ensures, c.if-good.false) c.not_allowed.ensures
+returns c =
+    rw (← c.mat_vec-au.ensures, ← c.subtract-nonlinear0.ensures, ← c.all_finite.ensures, ← c.all_finite-2.ensures, c.if-good.false) c.not_allowed.ensures

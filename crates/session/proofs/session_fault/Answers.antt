@@ -1,6 +1,5 @@
 -- `session::session_fault` meets its contract. Assumes nothing.
-use Rattle.std.proofs.Common.{not}
-use Rattle.std.proofs.Common.{ap}
+use Rattle.std.proofs.Common.{◌≡◌, true, not, ap}
 use mathlib.Core.Path.{sym, ◌∙◌}
 use Prim.Native.Nat.{◌≤◌}
 use native.Mathlib.Omega.{arith}
@@ -73,9 +72,10 @@ returns-then-not-in_phase c =
 pub returns-then-not-tolerances : goal.returns-then-not-tolerances
 unfolding session_tests
 returns-then-not-tolerances c =
+    let in_phase : c.good7-in_phase.result ≡ true = cc in
     holds_on 1 _ c.good1.ensures (ap not c.if-not-good1.false)
     (holds_on 2 _ (c.good2.ensures _) (ap not c.if-not-good2.false)
-    (holds_on 7 _ (c.good7-in_phase.ensures _) (ap not c.if-not-in_phase.false)
+    (holds_on 7 _ (c.good7-in_phase.ensures _) (ap not in_phase)
     (stops 4 _ (run_tolerances _ _ c.requires c.tolerances_ok-tolerances.ensures) (ap not c.if-not-tolerances.true))))
 
 pub returns-then-not-step : goal.returns-then-not-step
