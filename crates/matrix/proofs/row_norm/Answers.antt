@@ -9,7 +9,11 @@ pub loop-i-init : goal.loop-i-init
 loop-i-init c = (omega arith, every_none _, most_none _ _)
 
 pub loop-i-preserved : goal.loop-i-preserved
-loop-i-preserved c = (omega arith, every_step _ _ _ _ c.loop-i.invariant.1 (rw (c.finite.ensures, c.row_sum-sum.ensures)), most_step _ _ _ _ _ _ c.loop-i.invariant.2 c.row_sum-sum.ensures c.larger-value.ensures)
+loop-i-preserved c = (
+  omega arith,
+  every_step _ _ _ _ c.loop-i.invariant.1 (rw (c.finite.ensures, c.row_sum-sum.ensures)),
+  most_step _ _ _ _ _ _ c.loop-i.invariant.2 c.row_sum-sum.ensures c.larger-value.ensures,
+)
 
 pub returns : goal.returns
 unfolding admitted norm

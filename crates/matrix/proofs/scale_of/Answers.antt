@@ -18,4 +18,8 @@ loop-half-preserved c =
     (omega arith, half_next _ _ room c.loop-half.invariant.1, short_step _ _ _ c.loop-half.invariant.1 c.loop-half-test.true c.loop-half.invariant.2)
 
 pub returns : goal.returns
-returns c = record { number = squarings_is _ _ _ c.loop-half.invariant.0 c.loop-half.invariant.1 c.loop-half-test.false c.loop-half.invariant.2; divides = twice_half _ _ c.loop-half.invariant.0 c.loop-half.invariant.1 }
+returns c =
+    record {
+      number = squarings_is _ _ _ c.loop-half.invariant.0 c.loop-half.invariant.1 c.loop-half-test.false c.loop-half.invariant.2;
+      divides = twice_half _ _ c.loop-half.invariant.0 c.loop-half.invariant.1;
+    }

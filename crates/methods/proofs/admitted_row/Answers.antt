@@ -14,7 +14,14 @@ pub bounds-a-row : goal.bounds-a-row
 bounds-a-row c = omega (arith, row_inside c.requires.sized c.args.i (omega (arith, c.requires)))
 
 pub loop-j-init : goal.loop-j-init
-loop-j-init c = (refl, (row_inside c.requires.sized c.args.i (omega (arith, c.requires))).0, omega arith, omega (arith, c.requires), input_sum _ _ _ _ _ _ refl _ (omega (arith, c.requires)) c.abs-sum.ensures)
+loop-j-init c = (
+  refl,
+  (row_inside c.requires.sized c.args.i (omega (arith, c.requires))).0,
+  omega arith,
+  omega (arith, c.requires),
+  input_sum _ _ _ _ _ _ refl _
+      (omega (arith, c.requires)) c.abs-sum.ensures,
+)
 
 pub loop-j-preserved : goal.loop-j-preserved
 loop-j-preserved c = (

@@ -5,7 +5,9 @@ use Rattle.methods.specs.Parts.{input_row}
 use Rattle.methods.proofs.augmented_row.Given as goal
 
 abbrev pub invariant-loop-j : goal.invariant-loop-j
-invariant-loop-j l = (l.from ≡ l.i * l.n) × (l.from + l.n ≤ length l.a) × (l.j ≤ l.n) × (length l.out ≡ length l.initial.out) × (l.out ≡ stores (λ j x. input_row l.n l.a l.scale_a l.input l.i j) l.to l.j l.initial.out)
+invariant-loop-j l =
+    (l.from ≡ l.i * l.n) × (l.from + l.n ≤ length l.a) × (l.j ≤ l.n) × (length l.out ≡ length l.initial.out) × (l.out ≡ stores
+    (λ j x. input_row l.n l.a l.scale_a l.input l.i j) l.to l.j l.initial.out)
 
 abbrev pub decreases-loop-j : goal.decreases-loop-j
 decreases-loop-j l = l.n - l.j

@@ -21,7 +21,9 @@ returns-then-not-clear-lent c = rw (← c.used_jacobian.ensures) (stops 1 _ (ap 
 
 pub returns-then-not-step_ok : goal.returns-then-not-step_ok
 unfolding attempt_tests
-returns-then-not-step_ok c = rw (← c.used_jacobian.ensures) (holds_on 1 _ (ap (λ b. b && eqb c.args.lent c.args.n) c.clear.ensures) (ap not c.if-not-clear-lent.false) (stops 5 _ c.step_ok.ensures (ap not c.if-not-step_ok.true)))
+returns-then-not-step_ok c =
+    rw (← c.used_jacobian.ensures) (holds_on 1 _ (ap (λ b. b && eqb c.args.lent c.args.n) c.clear.ensures) (ap not c.if-not-clear-lent.false)
+    (stops 5 _ c.step_ok.ensures (ap not c.if-not-step_ok.true)))
 
 pub returns-then-not-calm : goal.returns-then-not-calm
 unfolding attempt_tests

@@ -37,7 +37,8 @@ show-shown-requires c =
     }
 
 pub returns-then-shown : goal.returns-then-shown
-returns-then-shown c = begin_shown _ _ _ _ c.args.out.now c.attempt_of-attempt.ensures c.begin_fault-fault.ensures c.if-fault-eq0.true _ c.put_attempt-next.ensures _ _ c.show-shown.ensures c.if-shown.true
+returns-then-shown c =
+    begin_shown _ _ _ _ c.args.out.now c.attempt_of-attempt.ensures c.begin_fault-fault.ensures c.if-fault-eq0.true _ c.put_attempt-next.ensures _ _ c.show-shown.ensures c.if-shown.true
 
 pub rest-requires : goal.rest-requires
 rest-requires c =

@@ -23,7 +23,16 @@ pub put-requires-2 : goal.put-requires-2
 put-requires-2 c = omega (arith, c.put.auto.out, c.rest-next.auto.figures, c.requires.figures_len, c.requires.state_len, length-set c.rest-next.new.figures 0 c.args.time)
 
 pub put-requires-then-k-eq-ETD2 : goal.put-requires-then-k-eq-ETD2
-put-requires-then-k-eq-ETD2 c = omega (arith, c.put-2.auto.out, c.put.auto.out, c.rest-next.auto.figures, c.requires.figures_len, c.requires.state_len, length-set c.rest-next.new.figures 0 c.args.time)
+put-requires-then-k-eq-ETD2 c =
+    omega (
+      arith,
+      c.put-2.auto.out,
+      c.put.auto.out,
+      c.rest-next.auto.figures,
+      c.requires.figures_len,
+      c.requires.state_len,
+      length-set c.rest-next.new.figures 0 c.args.time,
+    )
 
 pub shape_of-figures-then-k-eq-ETD2 : goal.shape_of-figures-then-k-eq-ETD2
 shape_of-figures-then-k-eq-ETD2 c = omega (arith, c.put-then-k-eq-ETD2.auto.out, c.put-2.auto.out, c.put.auto.out, c.rest-next.auto.figures, length-set c.rest-next.new.figures 0 c.args.time)

@@ -19,7 +19,14 @@ pub bounds-figures-1 : goal.bounds-figures-1
 bounds-figures-1 c = omega (arith, c.requires.figures_len.0)
 
 pub slice_bounds-put-end : goal.slice_bounds-put-end
-slice_bounds-put-end c = sym (length-take-le _ _ (omega (arith, c.used_jacobian-used.ensures, c.requires.figures_len.1, used_room c.args.k c.args.figures.now (Only Rest) c.args.attempt c.requires.figures_value)))
+slice_bounds-put-end c =
+    sym (length-take-le _ _ (omega (
+      arith,
+      c.used_jacobian-used.ensures,
+      c.requires.figures_len.1,
+      used_room c.args.k c.args.figures.now
+          (Only Rest) c.args.attempt c.requires.figures_value,
+    )))
 
 pub put-requires : goal.put-requires
 put-requires c =

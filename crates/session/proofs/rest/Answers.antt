@@ -17,10 +17,21 @@ bounds-figures-1 c = omega (arith, c.requires.figures_len)
 pub wipe-requires : goal.wipe-requires
 wipe-requires c =
     simp length-set
-    (omega (arith, c.used_jacobian-used.ensures, c.requires.figures_len, few _ _ c.requires.figures_len (typed_passed _ _ Any c.requires.figures_value (record { places = c.requires.figures_len; fit = c.slice_known-1.given })) c.requires.figures_value))
+    (omega (
+      arith,
+      c.used_jacobian-used.ensures,
+      c.requires.figures_len,
+      few _ _ c.requires.figures_len (typed_passed _ _ Any c.requires.figures_value
+          (record { places = c.requires.figures_len; fit = c.slice_known-1.given })) c.requires.figures_value,
+    ))
 
 pub overflow_mul-k : goal.overflow_mul-k
-overflow_mul-k c = omega (arith, short _ _ c.requires.figures_len (typed_passed _ _ Any c.requires.figures_value (record { places = c.requires.figures_len; fit = c.slice_known-1.given })) c.requires.figures_value)
+overflow_mul-k c =
+    omega (
+      arith,
+      short _ _ c.requires.figures_len (typed_passed _ _ Any c.requires.figures_value
+          (record { places = c.requires.figures_len; fit = c.slice_known-1.given })) c.requires.figures_value,
+    )
 
 pub wipe-requires-2 : goal.wipe-requires-2
 wipe-requires-2 c =
@@ -38,5 +49,6 @@ shape_of-figures c = omega (arith, c.wipe.auto.out, c.wipe-2.auto.out, length-se
 
 pub returns : goal.returns
 returns c =
-    rest_is c.args.k c.args.figures.now c.requires.figures_len (typed_passed _ _ Any c.requires.figures_value (record { places = c.requires.figures_len; fit = c.slice_known-1.given })) c.requires.figures_value
+    rest_is c.args.k c.args.figures.now c.requires.figures_len (typed_passed _ _ Any c.requires.figures_value
+    (record { places = c.requires.figures_len; fit = c.slice_known-1.given })) c.requires.figures_value
     c.used_jacobian-used.ensures c.wipe.ensures c.wipe-2.ensures
