@@ -511,7 +511,10 @@ fn nothing() -> Session {
 
 // A proved loop has to end: it counts its turns down from a number that no run uses up.
 fn main(rt: HostRuntime) {
-    let pipe = &Pipe::new(rt.stdin(), rt.stdout());
+    let pipe = &Pipe {
+        input: rt.stdin(),
+        output: rt.stdout(),
+    };
     let mut turns = u64::MAX;
     let mut next = Next {
         on: true,

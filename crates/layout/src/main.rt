@@ -69,7 +69,10 @@ fn outcomes(pipe: &Pipe) {
 }
 
 fn main(rt: HostRuntime) {
-    let pipe = &Pipe::new(rt.stdin(), rt.stdout());
+    let pipe = &Pipe {
+        input: rt.stdin(),
+        output: rt.stdout(),
+    };
     say(pipe, b"VECTOR", image::VECTOR);
     say(pipe, b"MATRIX", image::MATRIX);
     say(pipe, b"ANSWERS", image::ANSWERS);

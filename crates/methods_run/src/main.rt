@@ -187,7 +187,10 @@ fn record(pipe: &Pipe) -> bool {
 
 // A proved loop has to end: it counts its turns down from a number that no run uses up.
 fn main(rt: HostRuntime) {
-    let pipe = &Pipe::new(rt.stdin(), rt.stdout());
+    let pipe = &Pipe {
+        input: rt.stdin(),
+        output: rt.stdout(),
+    };
     let mut turns = u64::MAX;
     while turns > 0 && record(pipe) {
         turns -= 1;
