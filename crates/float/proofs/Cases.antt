@@ -21,10 +21,11 @@ root-nan : root binary64 nan ≡ nan
 unfolding root
 root-nan = refl
 
-pub root_of_nan : (x : Float) → ne x x ≡ true → x ≡ root binary64 x
-root_of_nan x h =
-    let e : x ≡ nan = differs_from_itself x (subst T (sym h) tt) in
-    subst (λ (y : Float). y ≡ root binary64 y) (sym e) (sym root-nan)
+pub root_of_nan : (x : Float) → is_nan x ≡ true → x ≡ root binary64 x
+unfolding is_nan
+root_of_nan nan h = sym root-nan
+root_of_nan (inf s) h = cc
+root_of_nan (fin s m e) h = cc
 
 pub no_nan : (x : Float) → ne x x ≡ false → T (not (is_nan x))
 unfolding ne is_nan
@@ -39,6 +40,10 @@ nan_pattern x h = ap (to_bits binary64) (sym (differs_from_itself x (subst T (sy
 pub zero_by_zero : div binary64 (of_bits binary64 0) (of_bits binary64 0) ≡ nan
 unfolding div of_bits of_fields odd
 zero_by_zero = refl
+
+pub nan_bits-nan : of_bits binary64 0x7ff8_0000_0000_0000 ≡ nan
+unfolding of_bits of_fields
+nan_bits-nan = refl
 
 -- ---- above zero and finite
 pub root_of_bits : (b : ℕ) → 0 < b → b < 0x7ff0_0000_0000_0000 → root binary64 (of_bits binary64 b) ≡ nearest_root binary64 (squares_of b)

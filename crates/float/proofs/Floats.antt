@@ -1,18 +1,17 @@
 -- What the tests and branches of the float helpers say. Assumes nothing.
-use Prim.Native.Nat.{ℕ, zero, suc, ◌+◌, ◌*◌, ◌<◌}
-use mathlib.Core.Path.{◌≡◌, refl, sym, ap, ◌∙◌}
-use mathlib.Core.Bool.{Bool, true, false, not, ◌&&◌, ◌||◌, beq, false≢true, true≢false}
-use native.Mathlib.Nat.{mul-pos, zero-mul, pow-suc}
-use native.Mathlib.Omega.{arith}
-use lib.Dec.{T, eqb}
-use lib.Pow.{pow_pos}
+use Rattle.std.proofs.Common.{ℕ, zero, suc, ◌+◌, ◌*◌, ◌<◌, ◌≡◌, refl, sym, ap, ◌∙◌, Bool, true, false, not, ◌&&◌, ◌||◌, arith}
+use mathlib.Core.Bool.{beq, false≢true, true≢false}
+use Rattle.std.proofs.Math.Nat.{mul-pos, zero-mul, pow-suc}
+use Rattle.std.proofs.Math.Dec.{T, eqb}
+use Rattle.std.proofs.Math.Pow.{pow_pos}
 use lib.Ieee.Fits.{up_pos}
-use lib.IntN.{ℤ, pos, negsuc}
+use Rattle.std.proofs.Math.IntN.{ℤ, pos, negsuc}
 use lib.Count.{count_trailing_zeros}
-use lib.Ieee.{Float, nan, inf, fin, binary64, lt, eq, ne, neg, div, is_nan, fits, of_bits, of_fields, odd, up, down, level, to_bits, size, span, climb}
-use borrow.Author.Tests.{ltb-true, ltb-false, eqb-true, eq-eqb, ne_eqb}
+use lib.Ieee.{Float, nan, inf, fin, binary64, lt, eq, neg, div, is_nan, fits, of_bits, of_fields, odd, up, down, level, to_bits, size, span, climb}
+use borrow.Author.Tests.{ltb-true, ltb-false, eqb-true, ne_eqb}
 use Rattle.loops.proofs.Bools.{both_true}
-use Rattle.float.specs.Arith.{◌⊘◌, zero+, one, abs, larger, plus_zero}
+use Rattle.float.specs.Arith.{◌⊘◌, zero+, one, finite, abs, larger, plus_zero}
+use Rattle.std.specs.Float.{float_is_finite}
 
 not_level : (m : ℕ) (e : ℤ) → eqb (suc m * up e * 1) (0 * down e) ≡ false
 not_level m e = ne_eqb (suc m * up e * 1) (0 * down e) (λ h. omega (arith, h, mul-pos {m = suc m} {n = up e} (omega arith) (up_pos e)))
@@ -33,6 +32,13 @@ is_plus (fin true zero e) = simp zero-mul
 is_plus (fin false zero e) = simp zero-mul
 is_plus (fin true (suc m) e) = rw (not_level m e)
 is_plus (fin false (suc m) e) = rw (not_level m e, ne_eqb (suc m) 0 (λ h. omega (arith, h)))
+
+-- std's word for the finite test says what ours says
+pub finite_is : (x : Float) → float_is_finite x ≡ finite x
+unfolding float_is_finite finite
+finite_is nan = refl
+finite_is (inf s) = refl
+finite_is (fin s m e) = refl
 
 pub abs_neg : (x : Float) → lt x zero+ ≡ true → neg x ≡ abs x
 unfolding abs neg lt of_bits of_fields odd count_trailing_zeros
@@ -118,20 +124,10 @@ module _ (x y : Float) where
   pub some_pos : lt x zero+ ≡ false → y ≡ x → eq y zero+ ≡ false → y ≡ abs x
   some_pos h e k = e ∙ abs_pos x h (rw e at k)
 
-same_sign : (s : Bool) → beq s s ≡ true
-same_sign true = refl
-same_sign false = refl
-
-ne_self : (x : Float) → ne x x ≡ is_nan x
-unfolding ne eq is_nan
-ne_self nan = refl
-ne_self (inf true) = refl
-ne_self (inf false) = refl
-ne_self (fin s m e) = rw (eq-eqb (m * up e * down e) (m * up e * down e) refl, same_sign s)
-
-pub larger-nan : (x y : Float) → ne x x ≡ true → y ≡ larger x y
+-- the larger of two, of which the first is a NaN
+pub larger-nan : (x y : Float) → is_nan x ≡ true → y ≡ larger x y
 unfolding larger
-larger-nan x y h = rw (← ne_self, h)
+larger-nan x y h = rw h
 
 -- the larger of a number and anything
 pub number-second : (x y : Float) → is_nan x ≡ false → lt x y ≡ true → y ≡ larger x y
@@ -141,9 +137,3 @@ number-second x y h k = rw (h, k)
 pub number-first : (x y : Float) → is_nan x ≡ false → lt x y ≡ false → x ≡ larger x y
 unfolding larger
 number-first x y h k = rw (h, k)
-
-pub larger-second : (x y : Float) → ne x x ≡ false → lt x y ≡ true → y ≡ larger x y
-larger-second x y h k = number-second x y (sym (ne_self x) ∙ h) k
-
-pub larger-first : (x y : Float) → ne x x ≡ false → lt x y ≡ false → x ≡ larger x y
-larger-first x y h k = number-first x y (sym (ne_self x) ∙ h) k

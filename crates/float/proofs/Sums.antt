@@ -1,9 +1,8 @@
 -- The three steps of a loop that sums from its first item, and of one that keeps the largest. Assumes nothing.
-use Prim.Native.Nat.{ℕ, zero, suc, ◌+◌, ◌≤◌, ◌<◌}
-use mathlib.Core.Path.{◌≡◌, refl}
-use native.Mathlib.Numerals.{add-one}
-use native.Mathlib.Nat.{not-suc-le-zero}
-use native.Mathlib.Omega.{arith}
+use Rattle.std.proofs.Common.{ℕ, zero, suc, ◌+◌, ◌≤◌, ◌<◌, ◌≡◌, refl, List, [], ◌∷◌, length, drop, fold, arith}
+use Rattle.std.proofs.Math.Numerals.{add-one}
+use Rattle.std.proofs.Math.Nat.{not-suc-le-zero, add-zero, zero-add, add-suc, suc-add}
+use Rattle.loops.specs.Loop.{◌!◌}
 use lib.Ieee.{Float}
 use Rattle.float.specs.Arith.{◌⊕◌, larger, sum_of, most}
 
@@ -18,6 +17,20 @@ sum_step f (suc k) x y e g h = rw (add-one, e, g)
 
 pub sum_end : (f : ℕ → Float) (k n : ℕ) (x : Float) → x ≡ sum_of k f → k ≡ n → x ≡ sum_of n f
 sum_end f k n x e h = rw (← h) e
+
+-- a sum of a list, from its first item on
+fold_sum : (f : Float → Float) (g : ℕ → Float) (k : ℕ) (xs : List Float) → ((j : ℕ) → j < length xs → f (xs ! j) ≡ g (suc (k + j)))
+    → fold (λ s x. s ⊕ f x) (sum_of (suc k) g) xs ≡ sum_of (suc (k + length xs)) g
+unfolding sum_of
+fold_sum f g k [] h = rw add-zero
+fold_sum f g k (x ∷ xs) h =
+    let e : f x ≡ g (suc k) = rw add-zero at (h 0 (omega arith)) in
+    rw (e, add-suc) (rw suc-add at (fold_sum f g (suc k) xs (λ j l. rw suc-add (rw add-suc at (h (suc j) (omega arith))))))
+
+pub sum_from_first : (f : Float → Float) (xs : List Float) → 0 < length xs → fold (λ s x. s ⊕ f x) (f (xs ! 0)) (drop 1 xs) ≡ sum_of (length xs) (λ j. f (xs ! j))
+unfolding sum_of
+sum_from_first f [] h = absurd (omega arith)
+sum_from_first f (x ∷ xs) h = rw zero-add at (fold_sum f (λ j. f ((x ∷ xs) ! j)) 0 xs (λ j l. rw zero-add))
 
 pub most_none : (f : ℕ → Float) (x : Float) → x ≡ most 0 f x
 unfolding most

@@ -15,21 +15,18 @@ pub const EPSILON: f64 = 2.220446049250313e-16;
 pub fn finite(x: f64) -> bool
     ensures { result ≡ finite x }
 {
-    x - x == 0.0
+    x.is_finite()
 }
 
 // Whether x is +0.0: first by value, so that a NaN's bits are never looked at.
 pub fn plus_zero(x: f64) -> bool
     ensures { result ≡ plus_zero x }
 {
-    if x == 0.0 {
-        f64::to_bits(x) == 0
-    } else {
-        false
-    }
+    x == 0.0 && x.to_bits() == 0
 }
 
 // The absolute value; that of a zero is +0.0. Two selects and no branch: signs can't be foretold.
+// Kept: by std's abs the deepest call of the library takes 48 bytes more of the stack, which must not grow.
 pub fn abs(x: f64) -> f64
     ensures { result ≡ abs x }
 {
@@ -38,13 +35,15 @@ pub fn abs(x: f64) -> f64
 }
 
 // The larger of two; a NaN is passed over, as f64::max does.
+// Kept: std's contract of max leaves open which of 0.0 and -0.0 it gives, so a bit of the result would not be known.
 pub fn larger(x: f64, y: f64) -> f64
     ensures { result ≡ larger x y }
 {
-    if x != x { y } else { if x < y { y } else { x } }
+    if x.is_nan() || x < y { y } else { x }
 }
 
 // powi(2).
+// Kept: the three powers are a line or two each; std's powi is a loop over the exponent's digits, and one function of both would need their cases.
 pub fn powi2(x: f64) -> f64
     ensures { result ≡ powi2 x }
 {
@@ -73,22 +72,36 @@ pub struct Digits {
     pub rest: u64,
 }
 
-// One more digit of the root, for a number with two more digits.
-fn digit(root: u64, rest: u64, two: u64) -> Digits
-    requires { (root < 2 ^ 60) × (rest ≤ 2 * root) × (two < 4) }
-    ensures { Rooted (4 * (root * root + rest) + two) result.root result.rest }
-{
-    let trial = root * 4 + 1;
-    let left = rest * 4 + two;
-    if trial <= left {
-        Digits {
-            root: root * 2 + 1,
-            rest: left - trial,
+impl Digits {
+    // One more digit of the root, for a number with two more digits.
+    fn digit(self, two: u64) -> Digits
+        requires { (self.root < 2 ^ 60) × (self.rest ≤ 2 * self.root) × (two < 4) }
+        ensures { Rooted (4 * (self.root * self.root + self.rest) + two) result.root result.rest }
+    {
+        let trial = self.root * 4 + 1;
+        let left = self.rest * 4 + two;
+        if trial <= left {
+            Digits {
+                root: self.root * 2 + 1,
+                rest: left - trial,
+            }
+        } else {
+            Digits {
+                root: self.root * 2,
+                rest: left,
+            }
         }
-    } else {
-        Digits {
-            root: root * 2,
-            rest: left,
+    }
+
+    // The nearest whole number to the root: there is no tie.
+    fn rounded(self) -> u64
+        requires { self.root < 2 ^ 53 }
+        ensures { result ≡ cond (ltb self.root self.rest) (suc self.root) self.root }
+    {
+        if self.root < self.rest {
+            self.root + 1
+        } else {
+            self.root
         }
     }
 }
@@ -98,16 +111,11 @@ fn whole_root(v: u64) -> Digits
     requires { v < 2 ^ 54 }
     ensures { Rooted v result.root result.rest }
 {
-    let mut root = 0;
-    let mut rest = 0;
-    let mut i: u64 = 27;
-    while 0 < i {
-        i -= 1;
-        let d = digit(root, rest, (v >> (2 * i)) % 4);
-        root = d.root;
-        rest = d.rest;
+    let mut digits = Digits { root: 0, rest: 0 };
+    for i in (0..27u64).rev() {
+        digits = digits.digit((v >> (2 * i)) % 4);
     }
-    Digits { root, rest }
+    digits
 }
 
 // The root of v with 26 digits after the point, as a whole number.
@@ -115,25 +123,11 @@ fn long_root(v: u64) -> Digits
     requires { v < 2 ^ 54 }
     ensures { Rooted (v * 4 ^ 26) result.root result.rest }
 {
-    let w = whole_root(v);
-    let mut root = w.root;
-    let mut rest = w.rest;
-    let mut j: u64 = 0;
-    while j < 26 {
-        let d = digit(root, rest, 0);
-        root = d.root;
-        rest = d.rest;
-        j += 1;
+    let mut digits = whole_root(v);
+    for _ in 0..26u64 {
+        digits = digits.digit(0);
     }
-    Digits { root, rest }
-}
-
-// The nearest whole number to the root: there is no tie.
-fn rounded(root: u64, rest: u64) -> u64
-    requires { root < 2 ^ 53 }
-    ensures { result ≡ cond (ltb root rest) (suc root) root }
-{
-    if root < rest { root + 1 } else { root }
+    digits
 }
 
 // A number as digits * 2 ^ power.
@@ -141,6 +135,24 @@ fn rounded(root: u64, rest: u64) -> u64
 pub struct Parts {
     pub digits: u64,
     pub power: u64,
+}
+
+impl Parts {
+    // The same number as digits * 4 ^ power.
+    fn halve(self) -> Parts
+        requires { (2 ^ 52 ≤ self.digits) × (self.digits < 2 ^ 53) × (1022 ≤ self.power) × (self.power ≤ 3119) }
+        ensures { Halved (self.digits * 2 ^ self.power) result.digits result.power }
+    {
+        let digits = if self.power % 2 == 0 {
+            self.digits
+        } else {
+            self.digits * 2
+        };
+        Parts {
+            digits,
+            power: self.power / 2,
+        }
+    }
 }
 
 // The double with the pattern b, which is above zero and finite, by its 53 digits: a subnormal is
@@ -152,7 +164,7 @@ fn unpack(b: u64) -> Parts
 {
     let field = b >> 52;
     if field == 0 {
-        let shift = u64::leading_zeros(b) - 11;
+        let shift = b.leading_zeros() - 11;
         Parts {
             digits: b << shift,
             power: 1074 - shift as u64,
@@ -161,24 +173,6 @@ fn unpack(b: u64) -> Parts
         Parts {
             digits: b % 0x10_0000_0000_0000 + 0x10_0000_0000_0000,
             power: field + 1073,
-        }
-    }
-}
-
-// The same number as digits * 4 ^ power.
-fn halve(digits: u64, power: u64) -> Parts
-    requires { (2 ^ 52 ≤ digits) × (digits < 2 ^ 53) × (1022 ≤ power) × (power ≤ 3119) }
-    ensures { Halved (digits * 2 ^ power) result.digits result.power }
-{
-    if power % 2 == 0 {
-        Parts {
-            digits,
-            power: power / 2,
-        }
-    } else {
-        Parts {
-            digits: digits * 2,
-            power: power / 2,
         }
     }
 }
@@ -196,22 +190,22 @@ fn positive_root(b: u64) -> f64
     requires { (0 < b) × (b < 0x7ff0_0000_0000_0000) }
     ensures { result ≡ nearest_root binary64 (squares_of b) }
 {
-    let p = unpack(b);
-    let h = halve(p.digits, p.power);
-    let d = long_root(h.digits);
-    pack(rounded(d.root, d.rest), h.power - 26)
+    let half = unpack(b).halve();
+    let root = long_root(half.digits);
+    pack(root.rounded(), half.power - 26)
 }
 
 // The double nearest to the square root of x, as IEEE 754 has it.
+// Kept: the root is worked out in whole numbers, a rule of the project that its edits are about; std's is the machine's operation.
 pub fn sqrt(x: f64) -> f64
     ensures { result ≡ sqrt x }
 {
-    if x != x {
+    if x.is_nan() {
         return x;
     }
-    let b = f64::to_bits(x);
+    let b = x.to_bits();
     if b > 0x8000_0000_0000_0000 {
-        return 0.0 / 0.0;
+        return f64::NAN;
     }
     if b % 0x8000_0000_0000_0000 == 0 {
         return x;

@@ -1,18 +1,22 @@
 -- The three steps of a loop's invariant, for each shape of loop: no turn yet, one turn more, and the end. Assumes nothing.
-use Prim.Native.Nat.{ℕ, zero, suc, ◌+◌, ◌-◌, ◌≤◌, ◌<◌}
-use mathlib.Core.Path.{◌≡◌, refl, sym, ap, ◌∙◌}
-use mathlib.Core.Bool.{Bool, true, ◌&&◌, and-true}
-use mathlib.Core.Logic.{◌≢◌}
-use mathlib.Core.List.{List, [], ◌∷◌, ◌++◌, append-nil}
-use native.Mathlib.Numerals.{add-one}
-use native.Mathlib.Nat.{add-zero, add-suc, suc-add, zero-add, not-suc-le-zero}
+use Rattle.std.proofs.Common.{ℕ, zero, suc, ◌+◌, ◌-◌, ◌≤◌, ◌<◌, ◌≡◌, refl, sym, ap, ◌∙◌, Bool, true, false, ◌&&◌, ◌≢◌, List, [], ◌∷◌, ◌++◌, arith, get_or, length, drop}
+use mathlib.Core.Bool.{and-true}
+use mathlib.Core.List.{append-nil}
+use Rattle.std.proofs.Math.Numerals.{add-one}
+use Rattle.std.proofs.Math.Nat.{add-zero, add-suc, suc-add, zero-add, not-suc-le-zero}
 use native.Mathlib.Decide.{ℕ_discrete}
-use native.Mathlib.Omega.{arith}
 use lib.Ieee.{Float, nan}
-use lib.ListN.{get_or, length, set, drop, length-append, length-drop, get_or-eq_default}
-use lib.Seq.{set_at, append_snoc, drop-cons, drop-length, get_or-append-add}
+use Rattle.std.proofs.Math.ListN.{set, length-append, length-drop, get_or-eq_default}
+use Rattle.std.proofs.Math.Seq.{set_at, append_snoc, drop-cons, drop-length, get_or-append-add}
 use Rattle.loops.specs.Loop.{iter, every, from, tab, fill, stores, ◌!◌}
 use Rattle.loops.proofs.Bools.{both_true}
+
+-- ---- iter
+-- turns that do the same leave the same
+pub iter_ext : {A : Type 0} (n : ℕ) (f g : ℕ → A → A) (s : A) → ((k : ℕ) → k < n → (x : A) → f k x ≡ g k x) → iter n f s ≡ iter n g s
+unfolding iter
+iter_ext zero f g s h = refl
+iter_ext (suc n) f g s h = rw (iter_ext n f g s (λ k l. h k (omega arith)), h n (omega arith))
 
 -- ---- every
 pub every_none : (f : ℕ → Bool) → true ≡ every 0 f
@@ -38,6 +42,14 @@ every_at (suc n) f h i l = go (ℕ_discrete i n) (λ k. every_at n f both.0 i k)
     go : Dec (i ≡ n) → (i < n → f i ≡ true) → f i ≡ true
     go (yes e) ih = rw e both.1
     go (no ne) ih = ih (omega arith)
+
+-- where one fails, not all hold
+pub every_fails : (n : ℕ) (f : ℕ → Bool) (i : ℕ) → i < n → f i ≡ false → every n f ≡ false
+every_fails n f i l h = go (every n f) refl
+  where
+    go : (b : Bool) → every n f ≡ b → b ≡ false
+    go true e = cc (every_at n f e i l)
+    go false e = refl
 
 -- the same tests hold together
 pub every_ext : (n : ℕ) (f g : ℕ → Bool) → ((k : ℕ) → k < n → f k ≡ g k) → every n f ≡ every n g

@@ -1,12 +1,7 @@
 -- Rows and columns of a matrix that is kept row by row. Assumes nothing.
-use Prim.Native.Nat.{ℕ, zero, suc, ◌+◌, ◌*◌, ◌/◌, ◌%◌, ◌<◌, ◌≤◌}
-use mathlib.Core.Path.{◌≡◌, ◌∙◌}
-use native.Mathlib.Nat.{not-suc-le-zero, zero-mul, div-lt_iff_lt-mul, mod-lt, add-zero, suc-mul, mul-le-mul, mul-le-mul_right, mul_comm, mul-add-div_right, mul-add-mod_self_right}
-use native.Mathlib.Nat.{div-eq_of_lt, mod-eq_of_lt}
-use native.Mathlib.Omega.{arith}
-use mathlib.Core.List.{List}
+use Rattle.std.proofs.Common.{ℕ, zero, suc, ◌+◌, ◌*◌, ◌/◌, ◌%◌, ◌<◌, ◌≤◌, ◌≡◌, ◌∙◌, arith, List, length}
+use Rattle.std.proofs.Math.Nat.{not-suc-le-zero, zero-mul, div-lt_iff_lt-mul, mod-lt, add-zero, suc-mul, mul-le-mul, mul-le-mul_right, mul_comm, mul-add-div_right, mul-add-mod_self_right, div-eq_of_lt, mod-eq_of_lt}
 use lib.Ieee.{Float}
-use lib.ListN.{length}
 use Rattle.loops.specs.Loop.{mat, fill, ◌!◌}
 use Rattle.loops.proofs.Loops.{length-tab, tab_at, fill_all}
 

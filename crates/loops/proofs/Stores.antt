@@ -1,15 +1,14 @@
 -- A list is known by its length and what stands at each place: so is a run of stores, and two runs are one. Assumes nothing.
-use Prim.Native.Nat.{ℕ, zero, suc, ◌+◌, ◌-◌, ◌*◌, ◌<◌, ◌≤◌}
-use mathlib.Core.Path.{◌≡◌, refl, sym, ◌∙◌}
-use mathlib.Core.Logic.{◌≢◌}
-use mathlib.Core.List.{List}
-use native.Mathlib.Nat.{add-suc, add-zero, zero-add, zero-mul, suc-mul, not-suc-le-zero}
-use native.Mathlib.Numerals.{add-one}
+use Rattle.std.proofs.Common.{ℕ, zero, suc, ◌+◌, ◌-◌, ◌*◌, ◌<◌, ◌≤◌, ◌≡◌, refl, sym, ap, ◌∙◌, ◌≢◌, List, ◌++◌, arith, length, take}
+use Rattle.std.proofs.Math.Nat.{add-suc, add-zero, zero-add, zero-mul, suc-mul, not-suc-le-zero}
+use Rattle.std.proofs.Math.Numerals.{add-one}
 use native.Mathlib.Decide.{ℕ_discrete, dec_lt}
-use native.Mathlib.Omega.{arith}
 use lib.Ieee.{Float, nan}
-use lib.ListN.{length, set, length-set}
-use lib.Seq.{get_or-set_same, get_or-set_other, set-get_or, ext_get_or}
+use Rattle.std.proofs.Math.ListN.{set, length-set, length-append, length-drop}
+use Rattle.std.proofs.Math.Seq.{get_or-set_same, get_or-set_other, set-get_or, ext_get_or, get_or-append-add, length-take-le}
+use borrow.Rule.Slice.PartMut.{put_mid}
+use Rattle.std.proofs.lemmas.List.{get_or-take, get_or-drop}
+use Rattle.std.proofs.lemmas.Slice.{take-put_mid_below, take-put_mid, drop-put_mid}
 use Rattle.loops.specs.Loop.{iter, tab, stores, ◌!◌}
 use Rattle.loops.proofs.Loops.{length-tab, tab_at}
 
@@ -52,6 +51,11 @@ stores_in g b (suc n) o j h r = go (ℕ_discrete j n) (λ q. stores_in g b n o j
     go (no ne) ih =
         let ne' : b + j ≢ b + n = omega arith in
         rw (stores-suc, get_or-set_other) (ih (omega arith))
+
+-- two runs of the same stores are one
+pub stores_ext : (f g : ℕ → Float → Float) (b n : ℕ) (o : List Float) → ((j : ℕ) → j < n → (x : Float) → f j x ≡ g j x) → stores f b n o ≡ stores g b n o
+stores_ext f g b zero o h = rw (stores-zero, stores-zero)
+stores_ext f g b (suc n) o h = rw (stores-suc, stores-suc, stores_ext f g b n o (λ j q x. h j (omega arith) x), h n (omega arith))
 
 -- a run over all of a list
 pub stores_all : (g : ℕ → Float → Float) (n : ℕ) (o : List Float) → length o ≡ n → stores g 0 n o ≡ tab n (λ p. g p (o ! p))
@@ -97,6 +101,37 @@ run_all g o p k e h = rw h at e ∙ stores_all g (length o) o refl
 -- a loop over all of a list that writes without looking
 pub run_to : (f : ℕ → Float) (o p : List Float) (k n : ℕ) → p ≡ stores (λ q x. f q) 0 k o → k ≡ n → length o ≡ n → p ≡ tab n f
 run_to f o p k n e h l = rw h at e ∙ stores_all (λ q x. f q) n o l
+
+-- a part that is written anew, lent as a slice, is a run of stores
+pub put_part : (f : ℕ → Float) (b n k : ℕ) (o y : List Float) → k ≡ n → y ≡ tab n f → b + n ≤ length o → put_mid b k o y ≡ stores (λ j x. f j) b n o
+put_part f b n k o y h e r = ext_get_or nan _ _ (long ∙ sym (length-stores (λ j x. f j) b n o)) (λ p q. go p (dec_lt p b) (dec_lt p (b + n)))
+  where
+    size : length y ≡ n
+    size = rw e (length-tab n f)
+
+    before : b ≤ length o
+    before = omega arith
+
+    long : length (put_mid b k o y) ≡ length o
+    long = simp (length-append, length-drop) (let l : length (take b o) ≡ b = length-take-le b o before in omega (arith, size))
+
+    go : (p : ℕ) → Dec (p < b) → Dec (p < b + n) → put_mid b k o y ! p ≡ stores (λ j x. f j) b n o ! p
+    go p (yes a) d =
+        let away : (j : ℕ) → j < n → p ≢ b + j = λ j q. omega arith in
+        rw stores_out (sym (get_or-take b (put_mid b k o y) p nan a) ∙ ap (λ z. z ! p) (take-put_mid_below b k o y b (omega arith) before) ∙ get_or-take b o p nan a)
+    go p (no a) (yes m) =
+        let s : p ≡ b + (p - b) = omega arith in
+        let q : p - b < n = omega arith in
+        let i : b + (p - b) < length o = omega arith in
+        let t : p ≡ length (take b o) + (p - b) = rw (length-take-le b o before) s in
+        let here : stores (λ j x. f j) b n o ! p ≡ f (p - b) = ap (λ z. stores (λ j x. f j) b n o ! z) s ∙ stores_in (λ j x. f j) b n o (p - b) q i in
+        sym (get_or-take (b + n) (put_mid b k o y) p nan m) ∙ ap (λ z. z ! p) (take-put_mid b k o y (b + n) (omega (arith, size)) before)
+        ∙ ap (λ z. (take b o ++ y) ! z) t ∙ get_or-append-add (take b o) y (p - b) nan ∙ ap (λ z. z ! (p - b)) e ∙ tab_at n f (p - b) q ∙ sym here
+    go p (no a) (no m) =
+        let away : (j : ℕ) → j < n → p ≢ b + j = λ j q. omega arith in
+        let s : p ≡ b + n + (p - (b + n)) = omega arith in
+        let fact = drop-put_mid b k o y (b + n) (omega arith) before (omega (arith, size)) in
+        rw stores_out (ap (λ z. put_mid b k o y ! z) s ∙ sym (get_or-drop (b + n) (put_mid b k o y) (p - (b + n)) nan) ∙ ap (λ z. z ! (p - (b + n))) fact ∙ get_or-drop (b + n) o (p - (b + n)) nan ∙ ap (λ z. o ! z) (sym s))
 
 -- stores over the first i rows of n places, and over one row more
 pub rows_none : (f : ℕ → Float → Float) (n : ℕ) (z : List Float) → z ≡ stores f 0 (0 * n) z

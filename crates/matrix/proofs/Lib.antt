@@ -1,5 +1,4 @@
 pub mod Vectors
-pub mod Runs
 pub mod Products
 pub mod Powers
 pub mod Series

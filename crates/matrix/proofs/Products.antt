@@ -1,74 +1,80 @@
 -- The product and the identity, row by row. Assumes nothing.
-use Prim.Native.Nat.{ℕ, zero, suc, ◌+◌, ◌*◌, ◌/◌, ◌%◌, ◌<◌, ◌≤◌}
-use mathlib.Core.Path.{◌≡◌, refl, sym, ap, ◌∙◌, subst}
-use mathlib.Core.Bool.{cond}
-use mathlib.Core.List.{List}
-use native.Mathlib.Numerals.{add-one}
-use native.Mathlib.Nat.{add-zero, zero-mul, zero-add, suc-mul, not-suc-le-zero}
+use Rattle.std.proofs.Common.{ℕ, zero, suc, ◌+◌, ◌*◌, ◌/◌, ◌%◌, ◌<◌, ◌≡◌, refl, sym, ap, ◌∙◌, cond, List, arith, length, take, drop}
+use Rattle.std.proofs.Math.Numerals.{add-one}
+use Rattle.std.proofs.Math.Nat.{suc-mul, not-suc-le-zero}
 use native.Mathlib.Decide.{ℕ_discrete}
-use native.Mathlib.Omega.{arith}
-use lib.Dec.{eqb}
+use Rattle.std.proofs.Math.Dec.{eqb}
 use borrow.Author.Tests.{eq-eqb, ne_eqb}
-use lib.Ieee.{Float}
-use lib.ListN.{length, set}
-use lib.Seq.{set-get_or}
-use Rattle.loops.specs.Loop.{iter, mat, stores, ◌!◌}
-use Rattle.loops.proofs.Stores.{stores-suc, stores_all, stores_join, stores-stores, stores_same, rows_step}
-use Rattle.loops.proofs.Places.{place_row, place_column}
-use Rattle.float.specs.Arith.{◌⊕◌, ◌⊗◌, zero+, one}
-use Rattle.matrix.specs.Matrix.{at, mat_mul, identity, squared}
-use Rattle.matrix.specs.Calls.{products, Started}
+use lib.Ieee.{Float, nan}
+use Rattle.std.proofs.Math.ListN.{set, replicate, length-drop, length-replicate, get_or-replicate}
+use Rattle.std.proofs.Math.Seq.{set-get_or, length-take-le}
+use borrow.Rule.Slice.PartMut.{put_mid}
+use Rattle.std.proofs.lemmas.List.{get_or-take, get_or-drop}
+use Rattle.loops.specs.Loop.{iter, tab, mat, stores, ◌!◌}
+use Rattle.loops.proofs.Loops.{iter_ext, length-tab, tab_at}
+use Rattle.loops.proofs.Stores.{tab_ext, stores-suc, stores_all, stores_join, stores_same, put_part, rows_step}
+use Rattle.loops.proofs.Places.{row_fits, place_row, place_column}
+use Rattle.float.specs.Arith.{◌⊕◌, ◌⊗◌, zero+, one, abs, sum_of}
+use Rattle.float.proofs.Sums.{sum_ext}
+use Rattle.matrix.specs.Matrix.{at, mat_mul, identity, row_sum, squared}
+use Rattle.matrix.specs.Calls.{row, products}
+
+-- ---- one row of a matrix
+pub length-row : (m : List Float) (n i : ℕ) → i < n → length m ≡ n * n → length (row m n i) ≡ n
+unfolding row
+length-row m n i h e = length-take-le n (drop (i * n) m) (rw length-drop (omega (arith, row_fits i n h)))
+
+pub row_at : (m : List Float) (n i j : ℕ) → j < n → row m n i ! j ≡ at m n i j
+unfolding row
+row_at m n i j h = rw (get_or-take, get_or-drop)
+
+pub row_part : (m : List Float) (n i s k : ℕ) → s ≡ i * n → k ≡ n → take k (drop s m) ≡ row m n i
+unfolding row
+row_part m n i s k h e = rw (h, e)
+
+pub row_sum_of : (m v x : List Float) (n i : ℕ) → x ≡ row m n i → length x ≡ n → sum_of (length x) (λ j. x ! j ⊗ v ! j) ≡ sum_of n (λ j. at m n i j ⊗ v ! j)
+row_sum_of m v x n i e l = rw (l, e) (sum_ext n _ _ (λ j h. rw (row_at m n i j h)))
+
+pub row_abs : (m x : List Float) (n i : ℕ) → x ≡ row m n i → length x ≡ n → sum_of (length x) (λ j. abs (x ! j)) ≡ row_sum m n i
+unfolding row_sum
+row_abs m x n i e l = rw (l, e) (sum_ext n _ _ (λ j h. ap abs (row_at m n i j h)))
 
 -- ---- one row of a product
-pub first_one : (l r : List Float) (n i row : ℕ) (o q : List Float) → row ≡ i * n → q ≡ stores (λ j x. zero+ ⊕ l ! row ⊗ r ! j) row n o → q ≡ stores (λ j x. products 1 l r n i j) (i * n) n o
+pub first_one : (l r x o q : List Float) (n : ℕ) → x ≡ row r n 0 → length o ≡ n → q ≡ tab (length o) (λ j. zero+ ⊕ l ! 0 ⊗ x ! j) → q ≡ tab n (products 1 l r n)
 unfolding products iter
-first_one l r n i row o q u e = simp (add-zero, zero-mul, zero-add) (simp u at e)
+first_one l r x o q n u h e = rw (h, u) at e ∙ tab_ext n _ _ (λ j k. rw (row_at r n 0 j k))
 
-pub first_two : (l r : List Float) (n i row next : ℕ) (o q : List Float) → row ≡ i * n → next ≡ 1 * n
-    → q ≡ stores (λ j x. zero+ ⊕ l ! row ⊗ r ! j ⊕ l ! (row + 1) ⊗ r ! (next + j)) row n o → q ≡ stores (λ j x. products 2 l r n i j) (i * n) n o
+pub first_two : (l r x y o q : List Float) (n : ℕ) → x ≡ row r n 0 → y ≡ row r n 1 → length o ≡ n
+    → q ≡ tab (length o) (λ j. zero+ ⊕ l ! 0 ⊗ x ! j ⊕ l ! 1 ⊗ y ! j) → q ≡ tab n (products 2 l r n)
 unfolding products iter
-first_two l r n i row next o q u v e = simp (add-zero, zero-mul, zero-add) (simp (u, v) at e)
+first_two l r x y o q n u v h e = rw (h, u, v) at e ∙ tab_ext n _ _ (λ j k. rw (row_at r n 0 j k, row_at r n 1 j k))
 
--- a row that is written over once more
-over : (f g : ℕ → Float) (b n : ℕ) (o q : List Float) → b + n ≤ length o → q ≡ stores (λ j x. f j) b n o → stores (λ j x. g j) b n q ≡ stores (λ j x. g j) b n o
-over f g b n o q h e = rw e (stores-stores (λ j x. f j) (λ j x. g j) b n o h)
-
-pub row_first : (l r : List Float) (n i k : ℕ) (o q : List Float) → i * n + n ≤ length o → Started l r i n k o q → q ≡ stores (λ j x. products k l r n i j) (i * n) n q
-row_first l r n i k o q h d = d.row ∙ sym (over (products k l r n i) (products k l r n i) (i * n) n o q h d.row)
-
-products-two : (l r : List Float) (n i j k : ℕ) → products (k + 2) l r n i j ≡ products k l r n i j ⊕ at l n i k ⊗ at r n k j ⊕ at l n i (k + 1) ⊗ at r n (k + 1) j
+products-two : (l r : List Float) (n j k : ℕ) → products (k + 2) l r n j ≡ products k l r n j ⊕ l ! k ⊗ at r n k j ⊕ l ! (k + 1) ⊗ at r n (k + 1) j
 unfolding products iter
-products-two l r n i j k = let s : k + 2 ≡ suc (suc k) = omega arith in rw (s, add-one)
+products-two l r n j k = let s : k + 2 ≡ suc (suc k) = omega arith in rw (s, add-one)
 
-pub row_two : (l r : List Float) (n i k row from next : ℕ) (o p q : List Float) → i * n + n ≤ length o → row ≡ i * n → from ≡ k * n → next ≡ (k + 1) * n
-    → p ≡ stores (λ j x. products k l r n i j) (i * n) n o
-    → q ≡ stores (λ j x. x ⊕ l ! (row + k) ⊗ r ! (from + j) ⊕ l ! (row + (k + 1)) ⊗ r ! (next + j)) row n p
-    → q ≡ stores (λ j x. products (k + 2) l r n i j) (i * n) n o
-row_two l r n i k row from next o p q h u v w e d =
-    let d' : q ≡ stores (λ j x. x ⊕ at l n i k ⊗ at r n k j ⊕ at l n i (k + 1) ⊗ at r n (k + 1) j) (i * n) n p = simp (u, v, w) at d in
-    simp products-two (d' ∙ ap (λ z. stores (λ j x. x ⊕ at l n i k ⊗ at r n k j ⊕ at l n i (k + 1) ⊗ at r n (k + 1) j) (i * n) n z) e ∙ stores-stores _ _ (i * n) n o h)
-
--- two products more
-pub pair_even : (k n : ℕ) → k % 2 ≡ n % 2 → (k + 2) % 2 ≡ n % 2
-pair_even k n h = omega arith
-
-pub pair-room : (k n : ℕ) → k % 2 ≡ n % 2 → k < n → k + 2 ≤ n
-pair-room k n h l = omega arith
-
-pub row_end : (l r : List Float) (n i k m : ℕ) (o q p : List Float) → i * n + n ≤ length o → Started l r i n k o q → m ≡ n
-    → p ≡ stores (λ j x. products m l r n i j) (i * n) n q → p ≡ stores (λ j x. products n l r n i j) (i * n) n o
-row_end l r n i k m o q p h d g e = subst (λ m. p ≡ stores (λ j x. products m l r n i j) (i * n) n q) g e ∙ over (products k l r n i) (products n l r n i) (i * n) n o q h d.row
+pub row_two : (l r x y p q : List Float) (n k : ℕ) → x ≡ row r n k → y ≡ row r n (k + 1) → p ≡ tab n (products k l r n)
+    → q ≡ tab (length p) (λ j. p ! j ⊕ l ! k ⊗ x ! j ⊕ l ! (k + 1) ⊗ y ! j) → q ≡ tab n (products (k + 2) l r n)
+row_two l r x y p q n k u v e d =
+    let h : length p ≡ n = rw e (length-tab n (products k l r n)) in
+    rw (h, u, v, e) at d ∙ tab_ext n _ _ (λ j i. rw (tab_at n (products k l r n) j i, row_at r n k j i, row_at r n (k + 1) j i) (sym (products-two l r n j k)))
 
 -- ---- all rows
 abbrev pub entry : List Float → List Float → ℕ → ℕ → Float → Float
-entry l r n p x = products n l r n (p / n) (p % n)
+entry l r n p x = iter n (λ k x. x ⊕ at l n (p / n) k ⊗ at r n k (p % n)) zero+
 
-pub product_step : (l r : List Float) (n i : ℕ) (z p q : List Float) → p ≡ stores (entry l r n) 0 (i * n) z
-    → q ≡ stores (λ j x. products n l r n i j) (i * n) n p → q ≡ stores (entry l r n) 0 ((i + 1) * n) z
-product_step l r n i z p q e d = rows_step (entry l r n) _ n i z p q (λ j h x. rw (place_row i j n h, place_column i j n h)) e d
+row_entry : (l r : List Float) (n i j : ℕ) (x : Float) → j < n → products n (row l n i) r n j ≡ entry l r n (i * n + j) x
+unfolding products
+row_entry l r n i j x h = rw (place_row i j n h, place_column i j n h) (iter_ext n _ _ zero+ (λ k q x. rw (row_at l n i k q)))
+
+pub product_step : (l r x y z p : List Float) (n i b k : ℕ) → i < n → length p ≡ n * n → b ≡ i * n → k ≡ n → p ≡ stores (entry l r n) 0 (i * n) z
+    → x ≡ row l n i → y ≡ tab n (products n x r n) → put_mid b k p y ≡ stores (entry l r n) 0 ((i + 1) * n) z
+product_step l r x y z p n i b k h len u v e w d =
+    rows_step (entry l r n) (λ j x. products n (row l n i) r n j) n i z p (put_mid b k p y) (λ j q x. row_entry l r n i j x q) e
+    (rw u (put_part (products n (row l n i) r n) (i * n) n k p y v (rw w at d) (omega (arith, row_fits i n h))))
 
 pub product_end : (l r : List Float) (n i : ℕ) (z p : List Float) → i ≡ n → length z ≡ n * n → p ≡ stores (entry l r n) 0 (i * n) z → p ≡ mat_mul l r n
-unfolding mat_mul mat products
+unfolding mat_mul mat
 product_end l r n i z p h k e = rw h at e ∙ stores_all (entry l r n) (n * n) z k
 
 -- ---- the identity
@@ -88,12 +94,11 @@ identity_step n i row z p h u e =
     rw (add-one, suc-mul, u, set_row (i * n) i n p h, e)
     (stores_join (diagonal n) _ (i * n) n z (λ j q x. rw (place_row i j n q, place_column i j n q)))
 
-pub identity_end : (n i k : ℕ) (o z p : List Float) → i ≡ n → length o ≡ n * n → z ≡ stores (λ q x. zero+) 0 k o → k ≡ length o → p ≡ stores (diagonal n) 0 (i * n) z → p ≡ identity n
+pub identity_end : (n i : ℕ) (o z p : List Float) → i ≡ n → length o ≡ n * n → z ≡ replicate (length o) zero+ → p ≡ stores (diagonal n) 0 (i * n) z → p ≡ identity n
 unfolding identity mat
-identity_end n i k o z p h l d m e =
-    let w : 0 + n * n ≤ length o = omega arith in
-    let d' : z ≡ stores (λ q x. zero+) 0 (n * n) o = rw (m, l) at d in
-    rw (h, d') at e ∙ stores-stores (λ q x. zero+) (diagonal n) 0 (n * n) o w ∙ stores_all (λ p x. diagonal n p zero+) (n * n) o l
+identity_end n i o z p h l d e =
+    rw (h, d, l) at e ∙ stores_all (diagonal n) (n * n) (replicate (n * n) zero+) (length-replicate (n * n) zero+)
+    ∙ tab_ext (n * n) _ _ (λ p q. rw (get_or-replicate (n * n) p zero+ nan q))
 
 -- ---- the squarings
 squared_front : (k n : ℕ) (m : List Float) → squared k (mat_mul m m n) n ≡ squared (suc k) m n

@@ -1,20 +1,16 @@
 -- One term divided and added, and the loop that adds terms until one is small. Assumes nothing.
-use Prim.Native.Nat.{ℕ, zero, suc, ◌+◌, ◌-◌, ◌*◌, ◌/◌, ◌%◌, ◌<◌, ◌≤◌}
-use mathlib.Core.Path.{◌≡◌, refl, sym, ap, ◌∙◌}
-use mathlib.Core.Bool.{Bool, true, false}
-use mathlib.Core.List.{List}
-use native.Mathlib.Numerals.{add-one}
-use native.Mathlib.Nat.{le_refl, le_trans}
-use native.Mathlib.Omega.{arith}
+use Rattle.std.proofs.Common.{ℕ, zero, suc, ◌+◌, ◌-◌, ◌*◌, ◌/◌, ◌%◌, ◌<◌, ◌≤◌, ◌≡◌, refl, sym, ap, ◌∙◌, Bool, true, false, List, arith, length}
+use Rattle.std.proofs.Math.Numerals.{add-one}
+use Rattle.std.proofs.Math.Nat.{le_refl, le_trans}
 use lib.Ieee.{Float, binary64, le, of_int}
-use lib.IntN.{pos}
-use lib.ListN.{length, set}
+use Rattle.std.proofs.Math.IntN.{pos}
+use Rattle.std.proofs.Math.ListN.{set}
 use Rattle.loops.specs.Loop.{stores, tab, ◌!◌}
 use Rattle.loops.proofs.Loops.{length-tab, tab_at, stores_step0}
 use Rattle.loops.proofs.Stores.{tab_ext, run_all, ahead}
 use Rattle.float.specs.Arith.{◌⊕◌, ◌⊗◌, ◌⊘◌, zero+, one, epsilon, abs, larger, most}
 use Rattle.float.proofs.Sums.{most_step, most_end, most_ext}
-use Rattle.matrix.specs.Matrix.{identity, mat_mul, div_all, add_all, max_abs, next_term, small, series, taylor, scaled, squared}
+use Rattle.matrix.specs.Matrix.{identity, mat_mul, div_all, add_all, max_abs, power, next_term, small, series, taylor, scaled, squared}
 use Rattle.matrix.specs.Calls.{Added, Turned, Summed, Ready, Worked}
 use Rattle.matrix.proofs.Products.{even_end, odd_end}
 
@@ -118,13 +114,12 @@ pub left-two : (a : List Float) (n : ℕ) (t r : List Float) (k : ℕ) → Left 
 left-two a n t r k e = let s : k + 1 + 1 ≡ k + 2 = omega arith in rw s at e
 
 -- ---- the five steps together
-module _ {w : ℕ} {m a o : List Float} {n c : ℕ} {d : Float} (r : Ready w m o n c d) (e : a ≡ div_all m d) where
-  pub scaled_is : a ≡ scaled m c
-  unfolding scaled
-  scaled_is = rw r.divides at e
+pub scaled_is : (m a : List Float) (c : ℕ) (d : Float) → d ≡ power c → a ≡ div_all m d → a ≡ scaled m c
+unfolding scaled
+scaled_is m a c d h e = rw h at e
 
-  pub few_terms : (taylor a n).terms ≤ 15
-  few_terms = rw scaled_is r.stops
+pub few_terms : {m o : List Float} {n c : ℕ} (a : List Float) → Ready m o n c → a ≡ scaled m c → (taylor a n).terms ≤ 15
+few_terms a r e = rw e r.stops
 
 pub exp_even : (m a x y : List Float) (c n t : ℕ) → a ≡ scaled m c → Summed a n x t → c % 2 ≡ 0 → y ≡ squared (2 * (c / 2)) x n → Worked m n c a y t
 exp_even m a x y c n t e u h d = record { divided = e; output = rw (← e, ← u.whole) (even_end c n x y h d); number = rw (← e) u.number }

@@ -1,5 +1,5 @@
 -- matrix.rs: the exponential of a matrix by scaling, Taylor's series and squaring, in document 01's five steps. A matrix of size n is its n * n entries, row by row. Definitions only.
-use Rattle.std.specs.Prelude.{ℕ, zero, suc, ◌+◌, ◌*◌, ◌^◌, ◌≤◌, Bool, true, false, cond, ◌&&◌, List, eqb, leb, pos, Float, length}
+use Rattle.std.specs.Prelude.{ℕ, zero, suc, ◌+◌, ◌*◌, ◌^◌, ◌≤◌, Bool, true, false, cond, ◌&&◌, Option, Some, None, List, eqb, leb, pos, Float, length}
 use Rattle.std.specs.Float.{nan, inf, fin, binary64}
 use Rattle.std.specs.Float.Ieee.{le, of_int, up, down}
 use Rattle.loops.specs.Loop.{iter, every, tab, mat, ◌!◌}
@@ -129,6 +129,6 @@ exponential m n =
 abbrev pub Few : ℕ → ℕ → Type 0
 Few terms squarings = (terms ≤ 15) × (squarings ≤ 32) × (terms + squarings ≤ 47)
 
--- what is told of it: whether m is admitted, and if so its terms and squarings
-unfoldable pub reach : List Float → ℕ → Reach
-reach m n = cond (admitted m n) (record { ok = true; terms = (exponential m n).terms; squarings = (exponential m n).squarings }) (record { ok = false; terms = 0; squarings = 0 })
+-- what is told of it: where m is admitted, its terms and squarings
+unfoldable pub reach : List Float → ℕ → Option Reach
+reach m n = cond (admitted m n) (Some (record { terms = (exponential m n).terms; squarings = (exponential m n).squarings })) None

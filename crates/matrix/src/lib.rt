@@ -4,11 +4,15 @@
 
 ghost use Rattle.std.specs.Prelude.{◌≡◌, ◌+◌, ◌*◌, ◌≤◌, ◌<◌, true, false, length};
 ghost use Rattle.std.specs.Float.Ieee.{le, is_nan};
-ghost use Rattle.loops.specs.Loop.{stores, ◌!◌};
+ghost use Rattle.loops.specs.Loop.{tab, ◌!◌};
 ghost use Rattle.float.specs.Arith.{◌⊕◌, ◌⊗◌, zero+, limit, abs, larger, sum_of};
-ghost use Rattle.matrix.specs.Matrix.{at, identity, mat_mul, div_all, row_sum, taylor, squared};
+ghost use Rattle.matrix.specs.Matrix.{at, identity, mat_mul, power, squarings, div_all, taylor, squared};
 ghost use Rattle.matrix.specs.Vector.{mat_vec};
-ghost use Rattle.matrix.specs.Calls.{products, Started, Normed, Scaled, Added, Turned, Summed, Ready, Worked, Filled};
+ghost use Rattle.matrix.specs.Calls.{row, products, Started, Normed, Added, Turned, Summed, Ready, Worked, Filled};
+
+mod dimension;
+
+pub use dimension::{Dimension, vector};
 
 // 2 ^ 31, the largest row sum that is exponentiated.
 pub const LIMIT: f64 = 2147483648.0;
@@ -21,110 +25,94 @@ fn row_start(i: usize, n: usize) -> usize
     i * n
 }
 
-// ---- the identity and the products
+// A matrix that is read: its entries, row by row, and its size.
+#[derive(Clone, Copy)]
+struct Square<'a> {
+    entries: &'a [f64],
+    size: usize,
+    ghost small: { size ≤ 20 },
+    ghost full: { length entries.now ≡ size * size },
+}
 
-// Sets every entry to +0.0.
-fn clear(out: &mut [f64])
-    ensures { out.new ≡ stores (λ p x. zero+) 0 (length out.old) out.old }
-{
-    for p in 0..out.len() {
-        out[p] = 0.0;
+impl<'a> Square<'a> {
+    // Row i.
+    fn row(&self, i: usize) -> &'a [f64]
+        requires { i < self.now.size }
+        ensures value { result.now ≡ row self.now.entries.now self.now.size i }
+        ensures len { length result.now ≡ self.now.size }
+    {
+        let start = row_start(i, self.size);
+        &self.entries[start..start + self.size]
     }
 }
+
+// ---- the identity and the products
 
 // The identity of size n.
 pub fn identity(out: &mut [f64], n: usize)
     requires { (n ≤ 20) × (length out.old ≡ n * n) }
     ensures { out.new ≡ identity n }
 {
-    clear(out);
+    out.fill(0.0);
     for i in 0..n {
-        let row = row_start(i, n);
-        out[row + i] = 1.0;
+        let start = row_start(i, n);
+        out[start + i] = 1.0;
     }
 }
 
-// The first product of each entry of a row: 0.0 + value * right[j] at out[at + j].
-fn set_one(out: &mut [f64], at: usize, value: f64, right: &[f64], n: usize)
-    requires { (at + n ≤ length out.old) × (n ≤ length right.now) }
-    ensures { out.new ≡ stores (λ j x. zero+ ⊕ value ⊗ right.now ! j) at n out.old }
+// The first product of each entry of a row: 0.0 + value * right[j].
+fn set_one(out: &mut [f64], value: f64, right: &[f64])
+    requires { length right.now ≡ length out.old }
+    ensures { out.new ≡ tab (length out.old) (λ j. zero+ ⊕ value ⊗ right.now ! j) }
 {
-    for j in 0..n {
-        out[at + j] = 0.0 + value * right[j];
+    for (j, x) in out.iter_mut().enumerate() {
+        *x = 0.0 + value * right[j];
     }
 }
 
 // The first two products of each entry, added one after the other.
-fn set_two(
-    out: &mut [f64],
-    at: usize,
-    value: f64,
-    right: &[f64],
-    second: f64,
-    next: usize,
-    n: usize,
-)
-    requires { (at + n ≤ length out.old) × (n ≤ length right.now) × (next + n ≤ length right.now) }
-    ensures { out.new ≡ stores (λ j x. zero+ ⊕ value ⊗ right.now ! j ⊕ second ⊗ right.now ! (next + j)) at n out.old }
+fn set_two(out: &mut [f64], value: f64, right: &[f64], second: f64, next: &[f64])
+    requires { (length right.now ≡ length out.old) × (length next.now ≡ length out.old) }
+    ensures { out.new ≡ tab (length out.old) (λ j. zero+ ⊕ value ⊗ right.now ! j ⊕ second ⊗ next.now ! j) }
 {
-    for j in 0..n {
-        out[at + j] = 0.0 + value * right[j] + second * right[next + j];
+    for (j, x) in out.iter_mut().enumerate() {
+        *x = 0.0 + value * right[j] + second * next[j];
     }
 }
 
 // The next two products of a row, added one after the other.
-fn add_two(
-    out: &mut [f64],
-    at: usize,
-    value: f64,
-    right: &[f64],
-    from: usize,
-    second: f64,
-    next: usize,
-    n: usize,
-)
-    requires { (at + n ≤ length out.old) × (from + n ≤ length right.now) × (next + n ≤ length right.now) }
-    ensures { out.new ≡ stores (λ j x. x ⊕ value ⊗ right.now ! (from + j) ⊕ second ⊗ right.now ! (next + j)) at n out.old }
+fn add_two(out: &mut [f64], value: f64, right: &[f64], second: f64, next: &[f64])
+    requires { (length right.now ≡ length out.old) × (length next.now ≡ length out.old) }
+    ensures { out.new ≡ tab (length out.old) (λ j. out.old ! j ⊕ value ⊗ right.now ! j ⊕ second ⊗ next.now ! j) }
 {
-    for j in 0..n {
-        out[at + j] = out[at + j] + value * right[from + j] + second * right[next + j];
+    for (j, x) in out.iter_mut().enumerate() {
+        *x = *x + value * right[j] + second * next[j];
     }
 }
 
-// The first product of each entry of row i, or the first two, so that the rest comes in pairs; how
+// The first product of each entry of a row, or the first two, so that the rest comes in pairs; how
 // many they are.
-fn first_products(left: &[f64], right: &[f64], out: &mut [f64], i: usize, n: usize) -> usize
-    requires i_lt_n { (i < n) × (n ≤ 20) }
-    requires left_len { (length left.now ≡ n * n) × (length right.now ≡ n * n) × (length out.old ≡ n * n) }
-    ensures { Started left.now right.now i n result out.old out.new }
+fn first_products(left: &[f64], right: &Square, out: &mut [f64]) -> usize
+    requires { (0 < right.now.size) × (length left.now ≡ right.now.size) × (length out.old ≡ right.now.size) }
+    ensures { Started left.now right.now.entries.now right.now.size result out.new }
 {
-    let row = row_start(i, n);
-    let value = left[row];
-    if n % 2 == 1 {
-        set_one(out, row, value, right, n);
+    if right.size % 2 == 1 {
+        set_one(out, left[0], right.row(0));
         return 1;
     }
-    let second = left[row + 1];
-    let next = row_start(1, n);
-    set_two(out, row, value, right, second, next, n);
+    set_two(out, left[0], right.row(0), left[1], right.row(1));
     2
 }
 
-// Row i of left * right. Each entry adds its products in the order of k, as the Rust does.
-fn product_row(left: &[f64], right: &[f64], out: &mut [f64], i: usize, n: usize)
-    requires i_lt_n { (i < n) × (n ≤ 20) }
-    requires left_len { (length left.now ≡ n * n) × (length right.now ≡ n * n) × (length out.old ≡ n * n) }
-    ensures { out.new ≡ stores (λ j x. products n left.now right.now n i j) (i * n) n out.old }
+// A row of a matrix times right. Each entry adds its products in the order of k, as the Rust does.
+// Kept: by step_by the products of sizes 5 to 20 take one to three in a hundred more instructions.
+fn product_row(left: &[f64], right: &Square, out: &mut [f64])
+    requires { (0 < right.now.size) × (length left.now ≡ right.now.size) × (length out.old ≡ right.now.size) }
+    ensures { out.new ≡ tab right.now.size (products right.now.size left.now right.now.entries.now right.now.size) }
 {
-    let row = row_start(i, n);
-    let mut k = first_products(left, right, out, i, n);
-    while k < n {
-        let after = k + 1;
-        let value = left[row + k];
-        let second = left[row + after];
-        let from = row_start(k, n);
-        let next = row_start(after, n);
-        add_two(out, row, value, right, from, second, next, n);
+    let mut k = first_products(left, right, out);
+    while k < right.size {
+        add_two(out, left[k], right.row(k), left[k + 1], right.row(k + 1));
         k += 2;
     }
 }
@@ -135,74 +123,76 @@ pub fn mat_mul(left: &[f64], right: &[f64], out: &mut [f64], n: usize)
     requires left_len { (length left.now ≡ n * n) × (length right.now ≡ n * n) × (length out.old ≡ n * n) }
     ensures { out.new ≡ mat_mul left.now right.now n }
 {
+    let left = Square {
+        entries: left,
+        size: n,
+    };
+    let right = Square {
+        entries: right,
+        size: n,
+    };
     for i in 0..n {
-        product_row(left, right, out, i, n);
+        let start = row_start(i, n);
+        product_row(left.row(i), &right, &mut out[start..start + n]);
     }
 }
 
-// Row i times a vector, from its first product.
-fn row_dot(m: &[f64], v: &[f64], i: usize, n: usize) -> f64
-    requires i_lt_n { (i < n) × (n ≤ 16) }
-    requires m_len { (length m.now ≡ n * n) × (length v.now ≡ 16) }
-    ensures { result ≡ sum_of n (λ j. at m.now n i j ⊗ v.now ! j) }
+// A row times a vector, from its first product.
+fn row_dot(row: &[f64], v: &[f64]) -> f64
+    requires { (0 < length row.now) × (length row.now ≤ length v.now) }
+    ensures { result ≡ sum_of (length row.now) (λ j. row.now ! j ⊗ v.now ! j) }
 {
-    let row = row_start(i, n);
-    let mut sum = m[row] * v[0];
-    for j in 1..n {
-        sum = sum + m[row + j] * v[j];
+    let mut sum = row[0] * v[0];
+    for j in 1..row.len() {
+        sum += row[j] * v[j];
     }
     sum
 }
 
-// A matrix times a vector of n entries; the places past n are +0.0.
+// A matrix times a vector of n entries; the places past n are +0.0. Not inlined: a step's frame, which is the deepest, would grow.
+#[inline(never)]
 pub fn mat_vec(m: &[f64], v: [f64; 16], n: usize) -> [f64; 16]
     requires { (n ≤ 16) × (length m.now ≡ n * n) }
     ensures { result ≡ mat_vec n m.now v }
 {
+    let m = Square {
+        entries: m,
+        size: n,
+    };
     let mut out = [0.0; 16];
     for i in 0..n {
-        out[i] = row_dot(m, &v, i, n);
+        out[i] = row_dot(m.row(i), &v);
     }
     out
 }
 
 // ---- step 1: the norm
 
-// The absolute values of row i, summed from the first.
-fn row_sum(m: &[f64], i: usize, n: usize) -> f64
-    requires { (i < n) × (n ≤ 20) × (length m.now ≡ n * n) }
-    ensures { result ≡ row_sum m.now n i }
+// The absolute values of a row, summed from the first.
+fn row_sum(row: &[f64]) -> f64
+    requires { 0 < length row.now }
+    ensures { result ≡ sum_of (length row.now) (λ j. abs (row.now ! j)) }
 {
-    let row = row_start(i, n);
-    let last = n - 1;
-    let mut sum = float::abs(m[row]);
-    let mut column = 1;
-    while column <= last {
-        sum = sum + float::abs(m[row + column]);
-        column += 1;
-    }
-    sum
+    row.iter()
+        .skip(1)
+        .fold(float::abs(row[0]), |sum, x| sum + float::abs(*x))
 }
 
-// The largest row sum, and whether every row sum is finite and at most 2^31.
-#[derive(Clone, Copy)]
-struct Norm {
-    ok: bool,
-    value: f64,
-}
-
-fn row_norm(m: &[f64], n: usize) -> Norm
-    requires { (n ≤ 20) × (length m.now ≡ n * n) }
-    ensures { Normed m.now n result.ok result.value }
-{
-    let mut ok = true;
-    let mut value = 0.0;
-    for i in 0..n {
-        let sum = row_sum(m, i, n);
-        value = float::larger(value, sum);
-        ok = ok & (float::finite(sum) & (sum <= LIMIT));
+impl<'a> Square<'a> {
+    // The largest row sum; None where a row sum is not finite or is above 2^31.
+    fn norm(&self) -> Option<f64>
+        ensures { Normed self.now.entries.now self.now.size result }
+    {
+        let mut norm = 0.0;
+        for i in 0..self.size {
+            let sum = row_sum(self.row(i));
+            if !(float::finite(sum) & (sum <= LIMIT)) {
+                return None;
+            }
+            norm = float::larger(norm, sum);
+        }
+        Some(norm)
     }
-    Norm { ok, value }
 }
 
 // ---- step 2: how often to square
@@ -212,21 +202,27 @@ fn row_norm(m: &[f64], n: usize) -> Norm
 struct Scale {
     count: u32,
     divisor: f64,
+    ghost power: { divisor ≡ power count },
 }
 
-// The least count with 2^count >= 2 * norm.
-fn scale_of(norm: f64) -> Scale
-    requires { le norm limit ≡ true }
-    ensures { Scaled norm result.count result.divisor }
-{
-    let mut count = 0;
-    let mut half = 0.5;
-    while half < norm {
-        half = half * 2.0;
-        count += 1;
+impl Scale {
+    // The least count with 2^count >= 2 * norm.
+    // Kept: the count is that of the doublings, and to read it from the norm's bits would be no plainer.
+    fn of(norm: f64) -> Scale
+        requires { le norm limit ≡ true }
+        ensures { result.count ≡ squarings norm }
+    {
+        let mut count = 0;
+        let mut half = 0.5;
+        while half < norm {
+            half *= 2.0;
+            count += 1;
+        }
+        Scale {
+            count,
+            divisor: half * 2.0,
+        }
     }
-    let divisor = half * 2.0;
-    Scale { count, divisor }
 }
 
 // ---- steps 3 and 4: the series
@@ -235,8 +231,8 @@ fn scale_of(norm: f64) -> Scale
 fn div_all(m: &mut [f64], d: f64)
     ensures { m.new ≡ div_all m.old d }
 {
-    for p in 0..m.len() {
-        m[p] = m[p] / d;
+    for x in m.iter_mut() {
+        *x /= d;
     }
 }
 
@@ -277,16 +273,18 @@ fn turn(a: &[f64], sum: &mut [f64], last: &[f64], next: &mut [f64], k: u32, n: u
 }
 
 // The series of the exponential, into sum, and the number of its last term.
+// Kept: the three others are written, so n goes with them; by a Square the compiler loses n's bound, and products take a tenth more instructions.
 fn taylor(a: &[f64], sum: &mut [f64], even: &mut [f64], odd: &mut [f64], n: usize) -> u32
     requires n_bound { n ≤ 20 }
     requires a_len { (length a.now ≡ n * n) × (length sum.old ≡ n * n) × (length even.old ≡ n * n) × (length odd.old ≡ n * n) }
-    requires n_bound_2 { (taylor a.now n).terms ≤ 15 }
+    requires stops { (taylor a.now n).terms ≤ 15 }
     ensures { Summed a.now n sum.new result }
 {
     identity(sum, n);
     identity(even, n);
     let mut k: u32 = 1;
-    let terms = loop {
+    // Kept: a rule of the project has the loop yield the term's number by its break; two terms a turn need no third array.
+    loop {
         if turn(a, sum, even, odd, k, n) {
             break k;
         }
@@ -294,14 +292,13 @@ fn taylor(a: &[f64], sum: &mut [f64], even: &mut [f64], odd: &mut [f64], n: usiz
             break k + 1;
         }
         k += 2;
-    };
-    terms
+    }
 }
 
 // ---- step 5: the squarings
 
 // m squared 2 * pairs times, by way of other.
-fn square(m: &mut [f64], other: &mut [f64], pairs: u32, n: usize)
+fn square_pairs(m: &mut [f64], other: &mut [f64], pairs: u32, n: usize)
     requires n_bound { n ≤ 20 }
     requires m_len { (length m.old ≡ n * n) × (length other.old ≡ n * n) }
     ensures { m.new ≡ squared (2 * pairs) m.old n }
@@ -321,147 +318,75 @@ fn exp_into(
     out: &mut [f64],
     even: &mut [f64],
     odd: &mut [f64],
-    count: u32,
-    divisor: f64,
+    scale: Scale,
     n: usize,
 ) -> u32
-    requires ready { Ready 20 m.old out.old n count divisor }
+    requires ready { Ready m.old out.old n scale.count }
     requires even_len { (length even.old ≡ n * n) × (length odd.old ≡ n * n) }
-    ensures { Worked m.old n count m.new out.new result }
+    ensures { Worked m.old n scale.count m.new out.new result }
 {
-    div_all(m, divisor);
-    if count % 2 == 0 {
+    div_all(m, scale.divisor);
+    if scale.count % 2 == 0 {
         let terms = taylor(m, out, even, odd, n);
-        square(out, odd, count / 2, n);
+        square_pairs(out, odd, scale.count / 2, n);
         return terms;
     }
     let terms = taylor(m, odd, even, out, n);
     mat_mul(odd, odd, out, n);
-    square(out, odd, count / 2, n);
+    square_pairs(out, odd, scale.count / 2, n);
     terms
 }
 
-// Room for sizes up to 4.
-fn exp_small(m: &mut [f64], out: &mut [f64], count: u32, divisor: f64, n: usize) -> u32
-    requires { Ready 4 m.old out.old n count divisor }
-    ensures { Worked m.old n count m.new out.new result }
+// Room for matrices of up to ROOM entries.
+fn exp_in<const ROOM: usize>(m: &mut [f64], out: &mut [f64], scale: Scale, n: usize) -> u32
+    requires room { (n * n ≤ ROOM) × (ROOM ≤ 400) }
+    requires ready { Ready m.old out.old n scale.count }
+    ensures { Worked m.old n scale.count m.new out.new result }
 {
     let size = n * n;
-    let mut even = [0.0; 16];
-    let mut odd = [0.0; 16];
-    exp_into(
-        m,
-        out,
-        &mut even[..size],
-        &mut odd[..size],
-        count,
-        divisor,
-        n,
-    )
-}
-
-// Room for sizes up to 8.
-fn exp_medium(m: &mut [f64], out: &mut [f64], count: u32, divisor: f64, n: usize) -> u32
-    requires { Ready 8 m.old out.old n count divisor }
-    ensures { Worked m.old n count m.new out.new result }
-{
-    let size = n * n;
-    let mut even = [0.0; 64];
-    let mut odd = [0.0; 64];
-    exp_into(
-        m,
-        out,
-        &mut even[..size],
-        &mut odd[..size],
-        count,
-        divisor,
-        n,
-    )
-}
-
-// Room for sizes up to 12.
-fn exp_wide(m: &mut [f64], out: &mut [f64], count: u32, divisor: f64, n: usize) -> u32
-    requires { Ready 12 m.old out.old n count divisor }
-    ensures { Worked m.old n count m.new out.new result }
-{
-    let size = n * n;
-    let mut even = [0.0; 144];
-    let mut odd = [0.0; 144];
-    exp_into(
-        m,
-        out,
-        &mut even[..size],
-        &mut odd[..size],
-        count,
-        divisor,
-        n,
-    )
-}
-
-// Room for sizes up to 20.
-fn exp_large(m: &mut [f64], out: &mut [f64], count: u32, divisor: f64, n: usize) -> u32
-    requires { Ready 20 m.old out.old n count divisor }
-    ensures { Worked m.old n count m.new out.new result }
-{
-    let size = n * n;
-    let mut even = [0.0; 400];
-    let mut odd = [0.0; 400];
-    exp_into(
-        m,
-        out,
-        &mut even[..size],
-        &mut odd[..size],
-        count,
-        divisor,
-        n,
-    )
+    let mut even = [0.0; ROOM];
+    let mut odd = [0.0; ROOM];
+    exp_into(m, out, &mut even[..size], &mut odd[..size], scale, n)
 }
 
 // The exponential in the least class of room that holds it, and the number of its terms.
-fn exp_roomy(m: &mut [f64], out: &mut [f64], count: u32, divisor: f64, n: usize) -> u32
-    requires { Ready 20 m.old out.old n count divisor }
-    ensures { Worked m.old n count m.new out.new result }
+fn exp_roomy(m: &mut [f64], out: &mut [f64], scale: Scale, n: usize) -> u32
+    requires { Ready m.old out.old n scale.count }
+    ensures { Worked m.old n scale.count m.new out.new result }
 {
-    if n <= 4 {
-        return exp_small(m, out, count, divisor, n);
+    match n {
+        0..=4 => exp_in::<16>(m, out, scale, n),
+        5..=8 => exp_in::<64>(m, out, scale, n),
+        9..=12 => exp_in::<144>(m, out, scale, n),
+        _ => exp_in::<400>(m, out, scale, n),
     }
-    if n <= 8 {
-        return exp_medium(m, out, count, divisor, n);
-    }
-    if n <= 12 {
-        return exp_wide(m, out, count, divisor, n);
-    }
-    exp_large(m, out, count, divisor, n)
 }
 
-// How far an exponential went: whether it was made, the terms that were added to its series, and the squarings.
+// How far an exponential went: the terms that were added to its series, and the squarings.
 #[derive(Clone, Copy)]
 pub struct Reach {
-    pub ok: bool,
     pub terms: u32,
     pub squarings: u32,
 }
 
-// The exponential of m, into out, and how far it went; or `ok` false, with out as it was, where a row sum is
+// The exponential of m, into out, and how far it went; or none, with out as it was, where a row sum is
 // not finite or is above 2^31. m itself is divided; where it is refused, it is as it was.
-pub fn matrix_exp(m: &mut [f64], out: &mut [f64], n: usize) -> Reach
+pub fn matrix_exp(m: &mut [f64], out: &mut [f64], n: usize) -> Option<Reach>
     requires n_bound { n ≤ 20 }
     requires m_len { (length m.old ≡ n * n) × (length out.old ≡ n * n) }
     ensures { Filled m.old n m.new out.old out.new result }
 {
-    let norm = row_norm(&*m, n);
-    if !norm.ok {
-        return Reach {
-            ok: false,
-            terms: 0,
-            squarings: 0,
-        };
-    }
-    let scale = scale_of(norm.value);
-    let terms = exp_roomy(m, out, scale.count, scale.divisor, n);
-    Reach {
-        ok: true,
+    let a = Square {
+        entries: m,
+        size: n,
+    };
+    let Some(norm) = a.norm() else {
+        return None;
+    };
+    let scale = Scale::of(norm);
+    let terms = exp_roomy(m, out, scale, n);
+    Some(Reach {
         terms,
         squarings: scale.count,
-    }
+    })
 }

@@ -1,6 +1,7 @@
--- `float::finite` meets its contract: x - x is +0.0 of a finite number alone. Assumes nothing.
-use Rattle.float.proofs.Marks.{self_test}
+-- `float::finite` meets its contract. Assumes nothing.
+use Rattle.std.proofs.Common.{◌∙◌}
+use Rattle.float.proofs.Floats.{finite_is}
 use Rattle.float.proofs.finite.Goals as goal
 
 pub returns : goal.returns
-returns c = self_test _
+returns c = c.is_finite.ensures.value ∙ finite_is _

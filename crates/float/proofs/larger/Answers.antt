@@ -1,11 +1,10 @@
-use Rattle.float.proofs.Floats.{larger-nan, larger-second, larger-first}
+-- `float::larger` meets its contract. Assumes nothing.
+use Rattle.float.proofs.Floats.{larger-nan, number-second, number-first}
 use Rattle.float.proofs.larger.Goals as goal
-
-pub returns-then-x : goal.returns-then-x
-returns-then-x c = larger-nan _ _ c.if-x.true
+use Rattle.float.proofs.larger.Goals.{then-is_nan, else-is_nan}
 
 pub returns-then-x-y : goal.returns-then-x-y
-returns-then-x-y c = larger-second _ _ c.if-x.false c.if-x-y.true
+returns-then-x-y c = elim c.if-is_nan.branch [ then-is_nan w ↦ larger-nan _ _ (cc) | else-is_nan w ↦ number-second _ _ (cc) (cc) ]
 
 pub returns-else-x-y : goal.returns-else-x-y
-returns-else-x-y c = larger-first _ _ c.if-x.false c.if-x-y.false
+returns-else-x-y c = elim c.if-is_nan.branch [ then-is_nan w ↦ cc | else-is_nan w ↦ number-first _ _ (cc) (cc) ]

@@ -1,5 +1,5 @@
 -- `float::unpack` meets its contract. Assumes nothing.
-use native.Mathlib.Omega.{arith}
+use Rattle.std.proofs.Common.{arith}
 use Rattle.float.proofs.Steps.{shift_bounds, unpack_low, unpack_high}
 use Rattle.float.proofs.unpack.Goals as goal
 

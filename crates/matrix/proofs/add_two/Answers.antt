@@ -1,14 +1,14 @@
--- `matrix::add_two` meets its contract: after j turns the first j entries of the row are done. Assumes nothing.
-use native.Mathlib.Omega.{arith}
-use lib.ListN.{length-set}
-use Rattle.loops.proofs.Loops.{stores_none, stores_step, stores_end}
+-- `matrix::add_two` meets its contract: the first j entries of the row are done. Assumes nothing.
+use Rattle.std.proofs.Common.{arith}
+use Rattle.loops.proofs.Loops.{stores_none, stores_step0}
+use Rattle.loops.proofs.Stores.{run_all}
 use Rattle.matrix.proofs.add_two.Goals as goal
 
 pub loop-j-init : goal.loop-j-init
-loop-j-init c = (omega arith, omega arith, stores_none _ _ _)
+loop-j-init c = stores_none _ _ _
 
 pub loop-j-preserved : goal.loop-j-preserved
-loop-j-preserved c = (omega arith, simp length-set (omega arith), stores_step _ _ _ _ _ c.loop-j.invariant.2)
+loop-j-preserved c = stores_step0 _ _ _ _ c.loop-j.invariant
 
 pub returns : goal.returns
-returns c = stores_end _ _ _ _ _ _ c.loop-j.invariant.2 (omega arith)
+returns c = run_all _ _ _ _ c.loop-j.invariant (omega arith)

@@ -2,16 +2,14 @@
 use Rattle.matrix.proofs.Whole.{norm-admitted, ready, refused, done}
 use Rattle.matrix.proofs.matrix_exp.Goals as goal
 
-pub returns-then-not-norm : goal.returns-then-not-norm
-returns-then-not-norm c = refused _ _ _ _ _ c.row_norm-norm.ensures c.if-not-norm.true
+pub returns-in_default : goal.returns-in_default
+returns-in_default c = refused _ _ _ c.in_default.ensures
 
-pub scale_of-scale-requires : goal.scale_of-scale-requires
-scale_of-scale-requires c = norm-admitted _ _ _ _ c.row_norm-norm.ensures c.if-not-norm.false
+pub of-scale-requires : goal.of-scale-requires
+of-scale-requires c = norm-admitted _ _ _ 0 c.in-Some.ensures.0 c.in-Some.ensures.1
 
 pub exp_roomy-terms-requires : goal.exp_roomy-terms-requires
-exp_roomy-terms-requires c = ready _ _ _ _ _ _ _ (c.requires.n_bound, c.requires.m_len) c.slice_known-1.given c.row_norm-norm.ensures c.if-not-norm.false c.scale_of-scale.ensures
+exp_roomy-terms-requires c = let s = c.in-Some.ensures in ready _ _ _ _ s.0 s.1 _ c.of-scale.ensures c.requires.n_bound c.requires.m_len c.slice_known-1.given
 
 pub returns : goal.returns
-returns c =
-    done _ _ _ _ _ _ _ _ _ _ c.row_norm-norm.ensures c.if-not-norm.false c.scale_of-scale.ensures
-    (ready _ _ _ _ _ _ _ (c.requires.n_bound, c.requires.m_len) c.slice_known-1.given c.row_norm-norm.ensures c.if-not-norm.false c.scale_of-scale.ensures) c.exp_roomy-terms.ensures
+returns c = let s = c.in-Some.ensures in done _ _ _ _ s.0 s.1 _ _ _ _ c.of-scale.ensures (ready _ _ _ _ s.0 s.1 _ c.of-scale.ensures c.requires.n_bound c.requires.m_len c.slice_known-1.given) c.exp_roomy-terms.ensures

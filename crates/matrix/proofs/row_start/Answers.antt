@@ -1,5 +1,5 @@
 -- `matrix::row_start` meets its contract. Assumes nothing.
-use native.Mathlib.Omega.{arith}
+use Rattle.std.proofs.Common.{arith}
 use Rattle.loops.proofs.Places.{row_small}
 use Rattle.matrix.proofs.row_start.Goals as goal
 

@@ -1,16 +1,14 @@
--- `matrix::row_sum` meets its contract: the sum has the first abss. Assumes nothing.
-use native.Mathlib.Omega.{arith}
-use Rattle.float.proofs.Sums.{sum_first, sum_step, sum_end}
-use Rattle.matrix.specs.Matrix.{row_sum}
-use native.Mathlib.Nat.{add-zero}
+-- `matrix::row_sum` meets its contract. Assumes nothing.
+use Rattle.std.proofs.Common.{◌∙◌, rules}
+use Rattle.std.proofs.lemmas.Iterator.{YieldsList-from_slice}
+use Rattle.std.proofs.lemmas.Iterator.Adapters.{YieldsList-from_skip}
+use Rattle.std.proofs.lemmas.Iterator.Consumers.{YieldsList-at, fold_from_yields_List}
+use Rattle.float.specs.Arith.{◌⊕◌, abs}
+use Rattle.float.proofs.Sums.{sum_from_first}
 use Rattle.matrix.proofs.row_sum.Goals as goal
 
-pub loop-column-init : goal.loop-column-init
-loop-column-init c = (omega arith, omega arith, sum_first _ _ (rw (add-zero, ← c.row_start-row.ensures.0) c.abs-sum.ensures))
-
-pub loop-column-preserved : goal.loop-column-preserved
-loop-column-preserved c = (omega arith, omega arith, sum_step _ _ _ _ c.loop-column.invariant.2 (rw (← c.row_start-row.ensures.0) c.abs-sum-in-loop-column.ensures) (omega arith))
-
 pub returns : goal.returns
-unfolding row_sum
-returns c = sum_end _ _ _ _ c.loop-column.invariant.2 (omega arith)
+returns c =
+    let road = YieldsList-from_skip 1 (YieldsList-at c.skip.ensures.source (YieldsList-from_slice c.args.row.now (cc))) (cc) in
+    let e = fold_from_yields_List _ (λ sum x. sum ⊕ abs x) c.abs.result c.fold.result c.fold.ensures.ran road (λ a x b q k. search rules) in
+    rw c.abs.ensures at e ∙ sum_from_first abs _ c.requires

@@ -1,8 +1,7 @@
--- `matrix::scale_of` meets its contract: half is half of 2 ^ count, and no smaller count is enough. Assumes nothing.
-use Prim.Native.Nat.{◌-◌, ◌≤◌}
-use mathlib.Core.Path.{◌≡◌}
+-- `matrix::Scale::of` meets its contract: half is half of 2 ^ count, and no smaller count is enough. Assumes nothing.
+use Rattle.std.proofs.Common.{◌≡◌, ◌-◌, ◌≤◌}
 use Rattle.matrix.proofs.Powers.{half_of, Short}
-use Rattle.matrix.proofs.scale_of.Given as goal
+use Rattle.matrix.proofs.Scale.of.Given as goal
 
 abbrev pub invariant-loop-half : goal.invariant-loop-half
 invariant-loop-half l = (l.count ≤ 32) × (l.half ≡ half_of l.count) × Short l.norm l.count
