@@ -1,1 +1,2 @@
 pub mod HochOst
+pub mod Histories

@@ -3,7 +3,7 @@ use Rattle.std.specs.Prelude.{ℕ, List, [], ◌∷◌, Float}
 use Rattle.float.specs.Arith.{◌⊕◌, ◌⊘◌}
 use Rattle.matrix.specs.Vector.{mat_vec}
 use Rattle.methods.specs.declared.Point.{Point}
-use Rattle.methods.specs.declared.Action.{Action}
+use Rattle.methods.specs.Tally.{Tried}
 use Rattle.methods.specs.Numbers.{num, minus, decimal, minus_decimal}
 use Rattle.methods.specs.Vectors.{add, subtract, scale, axpy}
 use Rattle.methods.specs.Phi.{over, more, combine_all, phi_term}
@@ -146,7 +146,7 @@ hoch_ost4_2 p a au u2 =
       hoch_ost4_3 p a au f2 u3
 
 -- hoch_ost4's i5 as one action, where p1h is p1h f1 and sum23 is f2 + f3
-unfoldable pub sum5 : Point → List Float → Action → List Float → List Float → Action
+unfoldable pub sum5 : Point → List Float → Tried → List Float → List Float → Tried
 sum5 p a p1h sum23 f4 =
     let n = p.n in
     let h = p.step in
@@ -157,15 +157,15 @@ sum5 p a p1h sum23 f4 =
     more n i5 (num 1) (a54 n a h f4)
 
 -- a52 and a54 of phi terms that are already worked out
-unfoldable pub a52_of : ℕ → Action → Action → Action → Action → Action
+unfoldable pub a52_of : ℕ → Tried → Tried → Tried → Tried → Tried
 a52_of n p2h p3 p2 p3h = combine_all n ((decimal 5 1, p2h) ∷ (minus 1, p3) ∷ (decimal 25 2, p2) ∷ (minus_decimal 5 1, p3h) ∷ [])
 
-unfoldable pub a54_of : ℕ → Action → Action → Action
+unfoldable pub a54_of : ℕ → Tried → Tried → Tried
 a54_of n p2h inner = combine_all n ((decimal 25 2, p2h) ∷ (minus 1, inner) ∷ [])
 
 -- hoch_ost4's phi terms of a vector with the coefficient 1, of the order k: at the whole step and at the half
-abbrev pub whole : Point → List Float → ℕ → List Float → Action
+abbrev pub whole : Point → List Float → ℕ → List Float → Tried
 whole p a k = phi_term p.n a p.step k (num 1)
 
-abbrev pub halved : Point → List Float → ℕ → List Float → Action
+abbrev pub halved : Point → List Float → ℕ → List Float → Tried
 halved p a k = phi_term p.n a (p.step ⊘ num 2) k (num 1)

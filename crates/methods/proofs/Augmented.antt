@@ -15,13 +15,13 @@ use Rattle.float.proofs.Sums.{sum_first, sum_step, sum_ext}
 use Rattle.float.proofs.Same.{abs_sign, sum_rest}
 use Rattle.matrix.specs.Matrix.{at, row_sum, admitted}
 use Rattle.matrix.specs.Vector.{zeros}
+use Rattle.std.specs.Prelude.{Option, Some, None}
 use Rattle.methods.specs.declared.Action.{Action}
-use Rattle.methods.specs.declared.Tally.{Tally}
-use Rattle.methods.specs.Vectors.{Sized}
-use Rattle.methods.specs.Tally.{tested, single}
-use Rattle.methods.proofs.Laws.{reach_ok}
-use Rattle.methods.specs.Phi.{checked, over, augmented_entry, augmented, phi_action, phi_term}
-use Rattle.methods.specs.Parts.{input_row, rows_to, chained, admitted_sum, input_admitted, if_wanted}
+use Rattle.methods.proofs.Made.{is_made, none_made}
+use Rattle.methods.specs.Tally.{Tried, tested, clean, single}
+use Rattle.methods.proofs.Laws.{single_ok}
+use Rattle.methods.specs.Phi.{checked, over, nothing, augmented_entry, augmented, phi_action, phi_term}
+use Rattle.methods.specs.Parts.{input_row, rows_to, chained, admitted_sum, input_admitted, if_wanted, report, taken, made}
 
 -- ---- a matrix is known by its entries
 is_mat : (n : ℕ) (f : ℕ → ℕ → Float) (l : List Float) → length l ≡ n * n → ((i j : ℕ) → i < n → j < n → l ! (i * n + j) ≡ f i j) → l ≡ mat n f
@@ -273,17 +273,28 @@ module _ (n : ℕ) (a : List Float) (c : Float) (order : ℕ) (x : List Float) (
   sums_admitted = every_true n order _ row_under ∙ every_ext n _ _ (λ i h. ap (λ z. finite z && le z limit) (row_in i h))
 
 -- ---- an action that is wanted, and one that is not
-pub wanted_is : (b : Bool) (k l : Action) → b ≡ true → k ≡ l → k ≡ if_wanted b l
+pub wanted_is : (b : Bool) (k : Option Action) (l : Tried) → b ≡ true → k ≡ made l → k ≡ made (if_wanted b l)
 unfolding if_wanted
 wanted_is b k l h e = rw h e
 
-pub phi_report : (b : Bool) (t : Tally) (n : ℕ) (a : List Float) (c : Float) (order : ℕ) (x : List Float) → b ≡ false → Sized n a → 1 ≤ order → t ≡ tested (input_admitted n a c x)
-    → record { v = replicate 16 zero+; tally = t } ≡ if_wanted b (phi_action n a c order x)
-unfolding if_wanted phi_action checked single zeros
-phi_report b t n a c order x h s o e = rw (h, e, reach_ok, sums_admitted n a c order x s.some o)
+-- one that is not: its row sums are admitted, or not
+unwanted : (n : ℕ) (a : List Float) (c : Float) (order : ℕ) (x : List Float) → 1 ≤ n → 1 ≤ order
+    → if_wanted false (phi_action n a c order x) ≡ record { v = zeros; tally = tested (input_admitted n a c x) }
+unfolding if_wanted phi_action checked
+unwanted n a c order x s o = rw (single_ok, sums_admitted n a c order x s o)
+
+pub phi_nothing : (b : Bool) (k : Action) (n : ℕ) (a : List Float) (c : Float) (order : ℕ) (x : List Float) → b ≡ false → 1 ≤ n → 1 ≤ order
+    → input_admitted n a c x ≡ true → taken k ≡ nothing → Some k ≡ made (if_wanted b (phi_action n a c order x))
+unfolding nothing clean
+phi_nothing b k n a c order x h s o e t = is_made k _ (rw (h, unwanted n a c order x s o, e) t)
+
+pub phi_unadmitted : (b : Bool) (n : ℕ) (a : List Float) (c : Float) (order : ℕ) (x : List Float) → b ≡ false → 1 ≤ n → 1 ≤ order
+    → input_admitted n a c x ≡ false → None ≡ made (if_wanted b (phi_action n a c order x))
+unfolding tested
+phi_unadmitted b n a c order x h s o e = none_made _ (rw (h, unwanted n a c order x s o, e))
 
 -- a term reports what its action does
-pub term_report : (b : Bool) (k : Action) (n : ℕ) (a : List Float) (c : Float) (order : ℕ) (d : Float) (x : List Float) → b ≡ false → k ≡ if_wanted false (phi_action n a c order x)
-    → k ≡ if_wanted b (phi_term n a c order d x)
+pub term_report : (b : Bool) (k : Option Action) (n : ℕ) (a : List Float) (c : Float) (order : ℕ) (d : Float) (x : List Float) → b ≡ false
+    → k ≡ made (if_wanted false (phi_action n a c order x)) → k ≡ made (if_wanted b (phi_term n a c order d x))
 unfolding if_wanted phi_term over
 term_report b k n a c order d x h e = rw h e

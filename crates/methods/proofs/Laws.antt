@@ -9,12 +9,14 @@ use Rattle.matrix.specs.declared.Reach.{Reach}
 use Rattle.matrix.specs.Matrix.{at, admitted, exponential, reach}
 use Rattle.matrix.specs.Calls.{Filled}
 use Rattle.matrix.specs.Vector.{zeros, vec, mat_vec}
-use Rattle.methods.specs.declared.Action.{Action}
+use Rattle.std.specs.Prelude.{Option, Some, None, is_some}
 use Rattle.methods.specs.declared.Tally.{Tally}
+use Rattle.methods.specs.declared.Action.{Action}
 use Rattle.methods.specs.Vectors.{Sized}
 use Rattle.methods.specs.Tally.{single}
 use Rattle.methods.specs.Phi.{checked, augmented_entry, augmented, phi_action, exp_action}
-use Rattle.methods.specs.Parts.{phi_into}
+use Rattle.methods.specs.Parts.{phi_into, report, made}
+use Rattle.methods.proofs.Made.{is_made, none_made}
 
 -- scaling place by place is scaling by row and column
 pub scale_at : (c : Float) (a : List Float) (n p : ℕ) → c ⊗ a ! p ≡ c ⊗ at a n (p / n) (p % n)
@@ -25,7 +27,7 @@ pub row_inside : {n : ℕ} {a : List Float} → Sized n a → (i : ℕ) → i < 
 row_inside {n} s i h = (rw s.square (row_fits i n h), rw s.square (mul-le-mul s.small s.small))
 
 -- ---- a class of room, of sizes up to w
-take-replicate : (k n : ℕ) (x : Float) → k ≤ n → take k (replicate n x) ≡ replicate k x
+pub take-replicate : (k n : ℕ) (x : Float) → k ≤ n → take k (replicate n x) ≡ replicate k x
 take-replicate zero n x h = refl
 take-replicate (suc k) zero x h = absurd (not-suc-le-zero h)
 take-replicate (suc k) (suc n) x h = ap (λ l. x ∷ l) (take-replicate k n x (omega arith))
@@ -43,51 +45,48 @@ module _ {s w : ℕ} (h : s ≤ w) where
   pub lent_count : s * s ≡ length (take (s * s) (replicate (w * w) zero+))
   lent_count = sym lent_length
 
--- what phi_into and exp_into require, in it
-pub phi_room : {n s w : ℕ} {a : List Float} → w ≤ 20 → Sized n a × ((n < s) × (s ≤ w))
-    → Sized n a × (((n < s) × (s - 1 < s) × (s ≤ 20)) × ((take (s * s) (replicate (w * w) zero+) ≡ replicate (s * s) zero+) × (length (take (s * s) (replicate (w * w) zero+)) ≡ s * s)))
-phi_room l p = (p.0, ((p.1.0, omega (arith, p.1), omega (arith, p.1)), (lent p.1.1, lent_length p.1.1)))
-
-pub exp_room : {n w : ℕ} {a : List Float} → Sized n a × (n ≤ w)
-    → Sized n a × ((length (take (n * n) (replicate (w * w) zero+)) ≡ n * n) × (length (take (n * n) (replicate (w * w) zero+)) ≡ n * n))
-exp_room p = (p.0, (lent_length p.1, lent_length p.1))
-
 -- ---- the two outcomes of an exponential
 
 -- it is made where the matrix is admitted
-pub reach_ok : (m : List Float) (n : ℕ) → (reach m n).ok ≡ admitted m n
+pub reach_some : (m : List Float) (n : ℕ) → is_some (reach m n) ≡ admitted m n
 unfolding reach
-reach_ok m n = go (admitted m n)
+reach_some m n = go (admitted m n)
   where
-    go : (b : Bool) → (cond {A = Reach} b (record { ok = true; terms = (exponential m n).terms; squarings = (exponential m n).squarings }) (record { ok = false; terms = 0; squarings = 0 })).ok ≡ b
+    go : (b : Bool) → is_some (cond {A = Option Reach} b (Some (record { terms = (exponential m n).terms; squarings = (exponential m n).squarings })) None) ≡ b
     go true = refl
     go false = refl
 
-module _ (n : ℕ) (a : List Float) (c : Float) (x : List Float) (m m' e d : List Float) (r : Reach) (t : Tally) where
-  made : {size : ℕ} → Filled m size m' d e r → r.ok ≡ true → e ≡ (exponential m size).entries
-  made {size} q o = let h : admitted m size ≡ true = sym (reach_ok m size) ∙ (rw q.told at o) in rw h at q.output
+single_some : (r : Option Reach) → (single r).ok ≡ is_some r
+unfolding single
+single_some (Some k) = refl
+single_some None = refl
 
-  pub phi_ok : (size column : ℕ) (v : List Float) → m ≡ mat size (augmented_entry n a c x) → Filled m size m' d e r → r.ok ≡ true → t ≡ single r
-      → v ≡ vec n (λ i. at e size i column) → record { tally = t; v = v } ≡ phi_into n a c x size column
+pub single_ok : (m : List Float) (n : ℕ) → (single (reach m n)).ok ≡ admitted m n
+single_ok m n = single_some (reach m n) ∙ reach_some m n
+
+module _ (n : ℕ) (a : List Float) (c : Float) (x : List Float) (m m' e d : List Float) where
+  filled : {size : ℕ} (k : Reach) → Filled m size m' d e (Some k) → e ≡ (exponential m size).entries
+  filled {size} k q = let h : admitted m size ≡ true = sym (reach_some m size) ∙ ap is_some (sym q.told) in rw h at q.output
+
+  pub phi_ok : (size column : ℕ) (k : Reach) (t : Tally) (v : List Float) → m ≡ mat size (augmented_entry n a c x) → Filled m size m' d e (Some k)
+      → report t ≡ single (Some k) → v ≡ vec n (λ i. at e size i column) → Some (record { v = v; tally = t }) ≡ made (phi_into n a c x size column)
   unfolding phi_into checked
-  phi_ok size column v p q o k w = rw (w, made q o, k, ← p, ← q.told, o)
+  phi_ok size column k t v p q s w = is_made (record { v = v; tally = t }) (phi_into n a c x size column) (rw (w, filled k q, s, ← p, ← q.told) refl)
 
-  pub phi_bad : (size column : ℕ) → m ≡ mat size (augmented_entry n a c x) → Filled m size m' d e r → r.ok ≡ false → t ≡ single r
-      → record { tally = t; v = replicate 16 (of_bits binary64 0) } ≡ phi_into n a c x size column
-  unfolding phi_into checked zeros
-  phi_bad size column p q o k = rw (k, ← p, ← q.told, o)
+  pub phi_bad : (size column : ℕ) → m ≡ mat size (augmented_entry n a c x) → Filled m size m' d e None → None ≡ made (phi_into n a c x size column)
+  unfolding phi_into checked single
+  phi_bad size column p q = none_made (phi_into n a c x size column) (rw (← p, ← q.told) refl)
 
-  pub exp_ok : (v : List Float) → m ≡ mat n (λ i j. c ⊗ at a n i j) → Filled m n m' d e r → r.ok ≡ true → t ≡ single r
-      → v ≡ mat_vec n e x → record { tally = t; v = v } ≡ exp_action n a c x
+  pub exp_ok : (k : Reach) (t : Tally) (v : List Float) → m ≡ mat n (λ i j. c ⊗ at a n i j) → Filled m n m' d e (Some k)
+      → report t ≡ single (Some k) → v ≡ mat_vec n e x → Some (record { v = v; tally = t }) ≡ made (exp_action n a c x)
   unfolding exp_action checked
-  exp_ok v p q o k w = rw (w, made q o, k, ← p, ← q.told, o)
+  exp_ok k t v p q s w = is_made (record { v = v; tally = t }) (exp_action n a c x) (rw (w, filled k q, s, ← p, ← q.told) refl)
 
-  pub exp_bad : m ≡ mat n (λ i j. c ⊗ at a n i j) → Filled m n m' d e r → r.ok ≡ false → t ≡ single r
-      → record { tally = t; v = replicate 16 (of_bits binary64 0) } ≡ exp_action n a c x
-  unfolding exp_action checked zeros
-  exp_bad p q o k = rw (k, ← p, ← q.told, o)
+  pub exp_bad : m ≡ mat n (λ i j. c ⊗ at a n i j) → Filled m n m' d e None → None ≡ made (exp_action n a c x)
+  unfolding exp_action checked single
+  exp_bad p q = none_made (exp_action n a c x) (rw (← p, ← q.told) refl)
 
 -- the phi action of an order is the last column at its size
-pub phi_column : (n : ℕ) (a : List Float) (c : Float) (x : List Float) (order : ℕ) (k : Action) → k ≡ phi_into n a c x (n + order) (n + order - 1) → k ≡ phi_action n a c order x
+pub phi_column : (n : ℕ) (a : List Float) (c : Float) (x : List Float) (order : ℕ) (k : Option Action) → k ≡ made (phi_into n a c x (n + order) (n + order - 1)) → k ≡ made (phi_action n a c order x)
 unfolding phi_into phi_action augmented
 phi_column n a c x order k e = e

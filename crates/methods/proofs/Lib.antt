@@ -1,7 +1,7 @@
+pub mod Made
 pub mod Laws
 pub mod Augmented
 pub mod Tallies
 pub mod Lines
-pub mod Requires
 pub mod Took
 pub mod Shape

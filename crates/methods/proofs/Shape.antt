@@ -3,6 +3,7 @@ use Rattle.std.proofs.Common.{◌≡◌, ℕ, zero, suc, ◌+◌, ◌-◌, ◌<�
 use mathlib.Core.Bool.{false≢true}
 use native.Mathlib.Nat.{sub-zero}
 use lib.Ieee.{Float}
+use Rattle.std.specs.Prelude.{Option, Some, None, is_some, IfSome}
 use lib.ListN.{get_or-eq_default}
 use Rattle.loops.proofs.Bools.{both_true}
 use Rattle.loops.specs.Loop.{mat}
@@ -11,12 +12,10 @@ use Rattle.evaluation.specs.Evaluation.{all_finite}
 use Rattle.matrix.specs.Matrix.{at, exponential, reach}
 use Rattle.matrix.specs.Vector.{zeros, vec, mat_vec}
 use Rattle.matrix.proofs.Vectors.{length-vec, zeros_at, vec-clear}
-use Rattle.methods.specs.declared.Tally.{Tally}
-use Rattle.methods.specs.declared.Action.{Action}
 use Rattle.methods.specs.declared.Point.{Point}
 use Rattle.methods.specs.declared.Work.{Work}
 use Rattle.methods.specs.Vectors.{add, subtract, axpy}
-use Rattle.methods.specs.Tally.{clean, work_of}
+use Rattle.methods.specs.Tally.{Report, Tried, clean, work_of}
 use Rattle.methods.specs.Parts.{narrow, narrow_work, in32, counted_in32}
 use Rattle.methods.specs.Phi.{checked, over, exp_action}
 use Rattle.methods.specs.Pass.{Pass, ask, done, also, now, try, question, ◌>>=◌, Stand, fails, asks, ends, counting, under, answer, replay}
@@ -25,7 +24,7 @@ use Rattle.methods.specs.Schemes.{epirk5s3, exprb53s3, epirk5p, epirk5p_end, epi
 use Rattle.methods.specs.Step.{pass, question_table, questions, exponential_table, exponentials, refused, asking, ended, finish, perform_step}
 use Rattle.methods.specs.Shape.{Asks, asks_more, asks_none, Makes, makes_more, makes_last, Vector, Vectors, asked_vector, ended_vectors, Whole}
 use Rattle.methods.specs.Shape.{AsksQuestions, MakesExponentials, AtMost34, PassVectors, AsksEarly, EndsLate}
-use Rattle.methods.specs.Shape.{Worked, StepWork, StepFits}
+use Rattle.methods.specs.Shape.{Doubles, Worked, StepWork, StepFits}
 use Rattle.methods.proofs.Tallies.{word_is}
 use Rattle.methods.proofs.Took.{term_room, Took, took_clean, took_unadmitted, took_joined, Fit, over_t, term_1, term_2, term_3, term_4}
 use Rattle.methods.proofs.Took.{action_1, action_2, action_3, action_4, exp_1, a52_4, a54_5, add_f, subtract_f, axpy_f, combine_f}
@@ -76,18 +75,18 @@ module _ (n : ℕ) where
 
   exp_action_v : (a : List Float) (c : Float) (x : List Float) → Fits n (exp_action n a c x).v
   unfolding exp_action checked
-  exp_action_v a c x = let m = mat n (λ i j. c ⊗ at a n i j) in or_zeros (reach m n).ok (mat_vec_v (exponential m n).entries x)
+  exp_action_v a c x = let m = mat n (λ i j. c ⊗ at a n i j) in or_zeros (is_some (reach m n)) (mat_vec_v (exponential m n).entries x)
 
   -- an action with a function over it is what the function makes
-  over_v : {f : List Float → List Float} (p : Action) → ((x : List Float) → Fits n (f x)) → Fits n (over f p).v
+  over_v : {f : List Float → List Float} (p : Tried) → ((x : List Float) → Fits n (f x)) → Fits n (over f p).v
   unfolding over
   over_v p made = made p.v
 
 -- ---- the shape: so many questions, so many exponentials, and vectors of n
 data Shaped (b : Bool) (n : ℕ) : ℕ → ℕ → Pass → Type 0 where
-  ask_s : {m j k : ℕ} {t : Tally} {x : List Float} {time : Float} {next : List Float → Pass}
+  ask_s : {m j k : ℕ} {t : Report} {x : List Float} {time : Float} {next : List Float → Pass}
       → Took b j t → Fits n x → ((r : List Float) → Shaped b n m k (next r)) → Shaped b n (suc m) (j + k) (ask t x time next)
-  done_s : {j : ℕ} {t : Tally} {x e : List Float} → Took b j t → Fits n x → Fits n e → Shaped b n 0 j (done t x e)
+  done_s : {j : ℕ} {t : Report} {x e : List Float} → Took b j t → Fits n x → Fits n e → Shaped b n 0 j (done t x e)
 
 -- what is told of the shape: the number of questions
 shaped_asks : {b : Bool} {n m k : ℕ} {p : Pass} → Shaped b n m k p → Asks m p
@@ -112,7 +111,7 @@ as_many : {b : Bool} {n m j k : ℕ} {p : Pass} → j ≡ k → Shaped b n m j p
 as_many {b} {n} {m} {p = p} e s = subst (λ (k : ℕ). Shaped b n m k p) e s
 
 -- more exponentials before the next question or the end
-also_s : {b : Bool} {n m i k : ℕ} {t : Tally} {p : Pass} → Took b i t → Shaped b n m k p → Shaped b n m (i + k) (also t p)
+also_s : {b : Bool} {n m i k : ℕ} {t : Report} {p : Pass} → Took b i t → Shaped b n m k p → Shaped b n m (i + k) (also t p)
 unfolding also
 also_s {b} {i = i} p (ask_s {j = j} {k = k} q v next) = as_many (add_assoc i j k) (ask_s (took_joined b p q) v next)
 also_s {b} p (done_s q v w) = done_s (took_joined b p q) v w
@@ -123,7 +122,7 @@ record Up (b : Bool) (n m from to : ℕ) (p : Pass) : Type 0 where
   shape : Shaped b n m (to - from) p
 
 -- the exponentials of one action more
-try_u : {b : Bool} {n m from to : ℕ} (j : ℕ) (p : Action) (next : List Float → Pass) → Took b j p.tally → Up b n m (from + j) to (next p.v) → Up b n m from to (try p >>= next)
+try_u : {b : Bool} {n m from to : ℕ} (j : ℕ) (p : Tried) (next : List Float → Pass) → Took b j p.tally → Up b n m (from + j) to (next p.v) → Up b n m from to (try p >>= next)
 unfolding ◌>>=◌
 try_u {from = from} {to = to} j p next t u =
     let e : j + (to - (from + j)) ≡ to - from = omega (arith, u.room) in
@@ -136,13 +135,13 @@ module _ {b : Bool} {n m from to : ℕ} where
   now_u x next u = u
 
   -- one that one exponential was worked out for, or four, or five
-  one_u : (p : Action) (next : List Float → Pass) → Took b 1 p.tally → Up b n m (from + 1) to (next p.v) → Up b n m from to (try p >>= next)
+  one_u : (p : Tried) (next : List Float → Pass) → Took b 1 p.tally → Up b n m (from + 1) to (next p.v) → Up b n m from to (try p >>= next)
   one_u p next t u = try_u 1 p next t u
 
-  four_u : (p : Action) (next : List Float → Pass) → Took b 4 p.tally → Up b n m (from + 4) to (next p.v) → Up b n m from to (try p >>= next)
+  four_u : (p : Tried) (next : List Float → Pass) → Took b 4 p.tally → Up b n m (from + 4) to (next p.v) → Up b n m from to (try p >>= next)
   four_u p next t u = try_u 4 p next t u
 
-  five_u : (p : Action) (next : List Float → Pass) → Took b 5 p.tally → Up b n m (from + 5) to (next p.v) → Up b n m from to (try p >>= next)
+  five_u : (p : Tried) (next : List Float → Pass) → Took b 5 p.tally → Up b n m (from + 5) to (next p.v) → Up b n m from to (try p >>= next)
   five_u p next t u = try_u 5 p next t u
 
 -- a question, with m more to come
@@ -267,7 +266,7 @@ module _ {b : Bool} (n : ℕ) (small : b ≡ true → n ≤ 16) (a u : List Floa
   unfolding exp4
   exp4_u = search parts depth 60
 
-  epirk4s3_u : (k l : Action) (c2 c3 r2c r3c q2c q3c : Float) → Took b 1 k.tally → Took b 1 l.tally → Up b n 2 0 5 (epirk4s3 n a u t h f k l c2 c3 r2c r3c q2c q3c)
+  epirk4s3_u : (k l : Tried) (c2 c3 r2c r3c q2c q3c : Float) → Took b 1 k.tally → Took b 1 l.tally → Up b n 2 0 5 (epirk4s3 n a u t h f k l c2 c3 r2c r3c q2c q3c)
   unfolding epirk4s3
   epirk4s3_u k l c2 c3 r2c r3c q2c q3c p q = search parts depth 60
 
@@ -295,10 +294,10 @@ module _ {b : Bool} (n : ℕ) (small : b ≡ true → n ≤ 16) (a u : List Floa
   unfolding epirk5p2 epirk5p epirk5p_end
   epirk5p2_u = search parts depth 60
 
-  etd2_u : (held : Bool) (previous : List Float) → Fit b n previous → Up b n 0 0 (cond held 4 2) (etd2 n a u h f held previous)
+  etd2_u : (previous : Option (List Float)) → ((w : List Float) → previous ≡ Some w → Fit b n w) → Up b n 0 0 (cond (is_some previous) 4 2) (etd2 n a u h f previous)
   unfolding etd2
-  etd2_u false previous fp = search parts depth 60
-  etd2_u true previous fp = search parts depth 60
+  etd2_u None known = search parts depth 60
+  etd2_u (Some w) known = let fw = known w refl in search parts depth 60
 
   exprb32_u : Up b n 1 0 3 (exprb32 n a u t h f)
   unfolding exprb32
@@ -324,11 +323,11 @@ choose_s (suc i) (more_s first rest) past = choose_s i rest past
 record Start (b : Bool) (p : Point) (g : List Float) : Type 0 where
   small : b ≡ true → p.n ≤ 16
   slope : Fit b p.n p.f0
-  before : Fit b p.n p.previous
+  before : (w : List Float) → p.previous ≡ Some w → Fit b p.n w
   rest : Fit b p.n g
 
 -- scheme k
-pass_s : {b : Bool} (k : ℕ) (p : Point) (a au g : List Float) → Start b p g → Shaped b p.n (questions k) (exponentials k p.held) (pass k p a au g)
+pass_s : {b : Bool} (k : ℕ) (p : Point) (a au g : List Float) → Start b p g → Shaped b p.n (questions k) (exponentials k (is_some p.previous)) (pass k p a au g)
 unfolding pass questions exponentials
 pass_s {b} k p a au g s =
     let n = p.n in
@@ -352,7 +351,7 @@ pass_s {b} k p a au g s =
     (more_s (exprb53s3_u n l a u t h f g ff)
     (more_s (epirk5p1_u n l a u t h f g ff)
     (more_s (epirk5p2_u n l a u t h f g ff)
-    (more_s (etd2_u n l a u t h g g s.rest p.held p.previous s.before)
+    (more_s (etd2_u n l a u t h g g s.rest p.previous s.before)
     (more_s (exprb32_u n l a u t h f g ff)
     (more_s (exprb43_u n l a u t h f au ff) none_s))))))))))))))))
     (done_s (took_unadmitted b) (zeros_v n) (zeros_v n))
@@ -361,7 +360,7 @@ pass_s {b} k p a au g s =
 any_start : (p : Point) (g : List Float) → Start false p g
 any_start p g =
     let no : (x : List Float) → Fit false p.n x = λ x. record { fit = λ e. absurd (false≢true e) } in
-    record { small = λ e. absurd (false≢true e); slope = no p.f0; before = no p.previous; rest = no g }
+    record { small = λ e. absurd (false≢true e); slope = no p.f0; before = λ w e. no w; rest = no g }
 
 -- a list whose entries are all at most b, and what stands at each place of it
 all_within : ℕ → List ℕ → Bool
@@ -391,7 +390,7 @@ unfolding questions
 questions_past k h = get_or-eq_default question_table 0 h
 
 -- ---- THE CLAIMS, of a pass
-any_shape : (k : ℕ) (p : Point) (a au g : List Float) → Shaped false p.n (questions k) (exponentials k p.held) (pass k p a au g)
+any_shape : (k : ℕ) (p : Point) (a au g : List Float) → Shaped false p.n (questions k) (exponentials k (is_some p.previous)) (pass k p a au g)
 any_shape k p a au g = pass_s k p a au g (any_start p g)
 
 pub asks_questions : AsksQuestions
@@ -411,7 +410,7 @@ or_fails P f true s h = h refl
 or_fails P f false s h = f
 
 -- and of the stand under a report, if no report alters it
-or_under : (P : Stand → Type 0) → P fails → (t : Tally) (s : Stand) → P (counting t s) → P (under t s)
+or_under : (P : Stand → Type 0) → P fails → (t : Report) (s : Stand) → P (counting t s) → P (under t s)
 unfolding under
 or_under P f t s h = or_fails P f t.ok (counting t s) (λ _. h)
 
@@ -431,7 +430,7 @@ counted_fails : (m count : ℕ) → Counted m count fails
 unfolding Counted
 counted_fails m count = tt
 
-counted_under : (m count : ℕ) (t : Tally) (s : Stand) → Counted m count s → Counted m count (under t s)
+counted_under : (m count : ℕ) (t : Report) (s : Stand) → Counted m count s → Counted m count (under t s)
 unfolding counting Counted
 counted_under m count t s h = or_under (Counted m count) (counted_fails m count) t s (go s h)
   where
@@ -457,7 +456,7 @@ Kept n fails = Unit
 Kept n (asks x time) = Whole n x × (finite time ≡ true)
 Kept n (ends x e t) = Whole n x × Whole n e
 
-kept_under : (n : ℕ) (t : Tally) (s : Stand) → Kept n s → Kept n (under t s)
+kept_under : (n : ℕ) (t : Report) (s : Stand) → Kept n s → Kept n (under t s)
 unfolding counting Kept
 kept_under n t s h = or_under (Kept n) tt t s (go s h)
   where
@@ -491,7 +490,7 @@ module _ {m : ℕ} {p : Pass} (shape : Asks m p) (n count j : ℕ) (answers : Li
   unfolding Counted
   replay_asks h = subst (Counted m count) h (replay_counted n shape count j answers)
 
-  pub replay_ends : {x e : List Float} {t : Tally} → replay n p count j answers ≡ ends x e t → m ≤ count
+  pub replay_ends : {x e : List Float} {t : Report} → replay n p count j answers ≡ ends x e t → m ≤ count
   unfolding Counted
   replay_ends h = subst (Counted m count) h (replay_counted n shape count j answers)
 
@@ -507,7 +506,7 @@ finish_asks false g s h = let z : ◌≡◌ {A = ℕ} 0 1 = cc in absurd (omega 
 -- what a step that has ended says of its pass
 record Finished (b : Bool) (g : List Float) (s : Stand) (x e r : List Float) (work : Work) : Type 0 where
   tests : b ≡ true
-  tally : Tally
+  tally : Report
   stands : s ≡ ends x e tally
   nonlinear : g ≡ r
   told : work_of tally ≡ work
@@ -558,7 +557,7 @@ reported_fails : (b : Bool) (m : ℕ) → Reported b m fails
 unfolding Reported
 reported_fails b m = tt
 
-reported_under : (b : Bool) (j m : ℕ) (t : Tally) (s : Stand) → Took b j t → Reported b m s → Reported b (j + m) (under t s)
+reported_under : (b : Bool) (j m : ℕ) (t : Report) (s : Stand) → Took b j t → Reported b m s → Reported b (j + m) (under t s)
 unfolding counting Reported
 reported_under b j m t s p h = or_under (Reported b (j + m)) tt t s (go s h)
   where
@@ -578,10 +577,10 @@ replay_reported n {b} (done_s {j = i} {t = t} {x = x} {e = e} p v w) count j ans
     (reported_under b i 0 t _ p (or_fails (Reported b 0) (reported_fails b 0) (all_finite x && all_finite e) (ends x e clean) (λ _. unfold Reported in took_clean b)))
 
 -- an end of the pass of scheme k, from any start
-end_took : {b : Bool} (k : ℕ) (p : Point) (a au g : List Float) → Start b p g → (count j : ℕ) (answers : List Float) {x e : List Float} {t : Tally}
-    → replay p.n (pass k p a au g) count j answers ≡ ends x e t → Took b (exponentials k p.held) t
+end_took : {b : Bool} (k : ℕ) (p : Point) (a au g : List Float) → Start b p g → (count j : ℕ) (answers : List Float) {x e : List Float} {t : Report}
+    → replay p.n (pass k p a au g) count j answers ≡ ends x e t → Took b (exponentials k (is_some p.previous)) t
 unfolding Reported
-end_took {b} k p a au g s count j answers h = subst (Reported b (exponentials k p.held)) h (replay_reported p.n (pass_s k p a au g s) count j answers)
+end_took {b} k p a au g s count j answers h = subst (Reported b (exponentials k (is_some p.previous))) h (replay_reported p.n (pass_s k p a au g s) count j answers)
 
 -- ---- THE CLAIM, of a step
 pub step_work : StepWork
@@ -590,20 +589,20 @@ step_work k p a count j answers x e g work small slope before h =
     let au = mat_vec p.n a p.state in
     let g' = subtract p.n p.f0 au in
     let f = finish_ends (all_finite au && all_finite g') g' (replay p.n (pass k p a au g') count j answers) h in
-    let s : Start true p g' = record { small = λ _. small; slope = record { fit = λ _. slope }; before = record { fit = λ _. before }; rest = subtract_f p.n p.f0 au } in
+    let s : Start true p g' = record { small = λ _. small; slope = record { fit = λ _. slope }; before = λ w e. record { fit = λ _. subst (λ o. IfSome o (Doubles p.n)) e before }; rest = subtract_f p.n p.f0 au } in
     let t = end_took k p a au g' s count j answers f.stands in
-    rw f.told at (told_work (exponentials k p.held) f.tally t)
+    rw f.told at (told_work (exponentials k (is_some p.previous)) f.tally t)
   where
-    told_work : (m : ℕ) (t : Tally) → Took true m t → Worked m (work_of t)
+    told_work : (m : ℕ) (t : Report) → Took true m t → Worked m (work_of t)
     told_work m t p = unfold work_of term_room in record { made = p.number; few = omega (arith, p.terms, p.squarings) }
 
 -- ---- the counts fit 32 bits, whatever the numbers are
-narrow_fits : (m : ℕ) (t : Tally) → m ≤ 34 → Took false m t → narrow t ≡ t
+narrow_fits : (m : ℕ) (t : Report) → m ≤ 34 → Took false m t → narrow t ≡ t
 unfolding narrow term_room
 narrow_fits m t h p =
     rw (word_is t.exponentials (omega (arith, p.number)), word_is t.terms (omega (arith, p.terms)), word_is t.squarings (omega (arith, p.squarings)))
 
-work_fits : (m : ℕ) (t : Tally) → m ≤ 34 → Took false m t → narrow_work (work_of t) ≡ work_of t
+work_fits : (m : ℕ) (t : Report) → m ≤ 34 → Took false m t → narrow_work (work_of t) ≡ work_of t
 unfolding narrow_work work_of term_room
 work_fits m t h p = rw (word_is t.exponentials (omega (arith, p.number)), word_is (t.terms + t.squarings) (omega (arith, p.terms, p.squarings)))
 
@@ -615,7 +614,7 @@ step_fits k p a au g r count j answers = go (replay p.n (pass k p a au g) count 
     go fails e = unfold counted_in32 finish in32 in refl
     go (asks x t) e = unfold counted_in32 finish in32 in refl
     go (ends x z t) e =
-        let m = exponentials k p.held in
-        let few = at_most_34 k p.held in
+        let m = exponentials k (is_some p.previous) in
+        let few = at_most_34 k (is_some p.previous) in
         let took = end_took k p a au g (any_start p g) count j answers e in
         unfold counted_in32 finish in32 in rw (narrow_fits m t few took, work_fits m t few took)

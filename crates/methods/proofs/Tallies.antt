@@ -2,22 +2,21 @@
 use Rattle.std.proofs.Common.{◌≡◌, ℕ, ◌+◌, ◌%◌, ◌^◌, ◌<◌, Bool, true, false, cond, ◌&&◌, List, sym, refl, ap, ◌∙◌, add-zero, add_assoc, mod-eq_of_lt, zero-add}
 use mathlib.Core.Bool.{and_assoc}
 use native.Mathlib.Nat.{mod-add-mod, add-mod-mod, mod-mod}
+use Rattle.std.specs.Prelude.{Some, None}
 use lib.Ieee.{Float}
 use Rattle.methods.specs.declared.Tally.{Tally}
-use Rattle.methods.specs.declared.Action.{Action}
 use Rattle.methods.specs.declared.Work.{Work}
-use Rattle.methods.specs.declared.Out.{Out}
-use Rattle.methods.specs.declared.Kind.{Kind}
-use Rattle.methods.specs.declared.Kind.TheVariants.{Question, Done}
-use Rattle.methods.specs.Tally.{tested, clean, joined, work_of}
+use Rattle.methods.specs.declared.Reached.TheVariants.{Question, End}
+use Rattle.methods.specs.declared.StepResult.TheVariants.{Question as Question', Done}
+use Rattle.methods.specs.Tally.{Report, Tried, tested, clean, joined, work_of}
 use Rattle.methods.specs.Phi.{more}
-use Rattle.methods.specs.Parts.{word, narrow, narrowed, narrow_work, in32, counted_in32, stand, stand_kind}
-use Rattle.methods.specs.Step.{refused, ended, finish, progress, progress_kind}
+use Rattle.methods.specs.Parts.{word, narrow, narrowed, narrow_work, in32, counted_in32, report, stand}
+use Rattle.methods.specs.Step.{refused, ended, finish, progress}
 use Rattle.methods.specs.Pass.{Stand, fails, asks, ends, counting, under}
 
 -- ---- joining
 
-pub joined_assoc : (x y z : Tally) → joined (joined x y) z ≡ joined x (joined y z)
+pub joined_assoc : (x y z : Report) → joined (joined x y) z ≡ joined x (joined y z)
 unfolding joined
 joined_assoc x y z =
     rw (
@@ -27,7 +26,7 @@ joined_assoc x y z =
       add_assoc x.squarings y.squarings z.squarings,
     )
 
-pub joined-clean : (x : Tally) → joined clean x ≡ x
+pub joined-clean : (x : Report) → joined clean x ≡ x
 unfolding joined clean tested
 joined-clean x = rw (zero-add x.exponentials, zero-add x.terms, zero-add x.squarings)
 
@@ -43,20 +42,20 @@ pub under-clean : (s : Stand) → under clean s ≡ s
 unfolding under clean tested
 under-clean s = unfold clean tested in counting-clean s
 
-counting-joined : (x y : Tally) (s : Stand) → counting (joined x y) s ≡ counting x (counting y s)
+counting-joined : (x y : Report) (s : Stand) → counting (joined x y) s ≡ counting x (counting y s)
 unfolding counting
 counting-joined x y fails = refl
 counting-joined x y (asks z t) = refl
 counting-joined x y (ends z e t) = rw joined_assoc
 
 -- by the two tests
-both_under : (a b : Bool) (x y : Tally) (s : Stand) → cond (a && b) (counting (joined x y) s) fails ≡ cond a (counting x (cond b (counting y s) fails)) fails
+both_under : (a b : Bool) (x y : Report) (s : Stand) → cond (a && b) (counting (joined x y) s) fails ≡ cond a (counting x (cond b (counting y s) fails)) fails
 unfolding counting
 both_under true true x y s = unfold counting in counting-joined x y s
 both_under true false x y s = refl
 both_under false b x y s = refl
 
-pub under-joined : (x y : Tally) (s : Stand) → under (joined x y) s ≡ under x (under y s)
+pub under-joined : (x y : Report) (s : Stand) → under (joined x y) s ≡ under x (under y s)
 unfolding under joined
 under-joined x y s = unfold joined in both_under x.ok y.ok x y s
 
@@ -76,11 +75,11 @@ word_right : (a b : ℕ) → word (a + word b) ≡ word (a + b)
 unfolding word
 word_right a b = add-mod-mod a b (2 ^ 32)
 
-narrow-left : (x y : Tally) → narrow (joined (narrow x) y) ≡ narrow (joined x y)
+narrow-left : (x y : Report) → narrow (joined (narrow x) y) ≡ narrow (joined x y)
 unfolding narrow joined
 narrow-left x y = rw (word-left x.exponentials y.exponentials, word-left x.terms y.terms, word-left x.squarings y.squarings)
 
-pub narrow_right : (x y : Tally) → narrow (joined x (narrow y)) ≡ narrow (joined x y)
+pub narrow_right : (x y : Report) → narrow (joined x (narrow y)) ≡ narrow (joined x y)
 unfolding narrow joined
 narrow_right x y = rw (word_right x.exponentials y.exponentials, word_right x.terms y.terms, word_right x.squarings y.squarings)
 
@@ -88,29 +87,24 @@ held_cond : (c : Bool) (s t : Stand) → in32 s ≡ in32 t → in32 (cond c s fa
 held_cond true s t e = e
 held_cond false s t e = refl
 
-held_counting : (b : Tally) (s : Stand) → in32 (counting (narrow b) s) ≡ in32 (counting b s)
+held_counting : (b : Report) (s : Stand) → in32 (counting (narrow b) s) ≡ in32 (counting b s)
 unfolding counting in32
 held_counting b fails = refl
 held_counting b (asks x t) = refl
 held_counting b (ends x e t) = rw narrow-left
 
-pub held_narrow : (b : Tally) (s : Stand) → in32 (under (narrow b) s) ≡ in32 (under b s)
+pub held_narrow : (b : Report) (s : Stand) → in32 (under (narrow b) s) ≡ in32 (under b s)
 unfolding under narrow
 held_narrow b s = unfold narrow in held_cond b.ok (counting (narrow b) s) (counting b s) (held_counting b s)
 
 -- two reports that 32 bits hold alike
-pub held_alike : (b c : Tally) (s : Stand) → narrow b ≡ narrow c → in32 (under b s) ≡ in32 (under c s)
+pub held_alike : (b c : Report) (s : Stand) → narrow b ≡ narrow c → in32 (under b s) ≡ in32 (under c s)
 held_alike b c s e = sym (held_narrow b s) ∙ ap (λ t. in32 (under t s)) e ∙ held_narrow c s
 
 -- ---- the records as the code makes them
 
--- a report with a test beside it
-pub with_test : (t : Tally) (b : Bool) → record { ok = t.ok && b; exponentials = t.exponentials; terms = t.terms; squarings = t.squarings } ≡ joined t (tested b)
-unfolding joined tested
-with_test t b = rw (add-zero t.exponentials, add-zero t.terms, add-zero t.squarings)
-
 -- two reports, each sum as 32 bits hold it
-pub joined_is : (x y : Tally) (e t s : ℕ) → e ≡ (x.exponentials + y.exponentials) % 2 ^ 32 → t ≡ (x.terms + y.terms) % 2 ^ 32 → s ≡ (x.squarings + y.squarings) % 2 ^ 32
+pub joined_is : (x y : Report) (e t s : ℕ) → e ≡ (x.exponentials + y.exponentials) % 2 ^ 32 → t ≡ (x.terms + y.terms) % 2 ^ 32 → s ≡ (x.squarings + y.squarings) % 2 ^ 32
     → record { ok = x.ok && y.ok; exponentials = e; terms = t; squarings = s } ≡ narrow (joined x y)
 unfolding narrow joined word
 joined_is x y e t s p q r = rw (p, q, r)
@@ -122,22 +116,22 @@ word_is k h = mod-eq_of_lt h
 
 -- ---- sums of actions, each sum as 32 bits hold it
 module _ (n : ℕ) (c : Float) where
-  more-narrow : (s p : Action) → narrowed (more n (narrowed s) c p) ≡ narrowed (more n s c p)
+  more-narrow : (s p : Tried) → narrowed (more n (narrowed s) c p) ≡ narrowed (more n s c p)
   unfolding narrowed more
   more-narrow s p = rw (narrow-left s.tally p.tally)
 
-  narrow-more : (s p : Action) → narrowed (more n s c (narrowed p)) ≡ narrowed (more n s c p)
+  narrow-more : (s p : Tried) → narrowed (more n s c (narrowed p)) ≡ narrowed (more n s c p)
   unfolding narrowed more
   narrow-more s p = rw (narrow_right s.tally p.tally)
 
   -- a part more, onto a sum that 32 bits hold, of a part that they hold, or both
-  pub more_onto : (s S p q : Action) → s ≡ narrowed S → q ≡ narrowed (more n s c p) → q ≡ narrowed (more n S c p)
+  pub more_onto : (s S p q : Tried) → s ≡ narrowed S → q ≡ narrowed (more n s c p) → q ≡ narrowed (more n S c p)
   more_onto s S p q e h = (rw e at h) ∙ more-narrow S p
 
-  pub more_of : (s p P q : Action) → p ≡ narrowed P → q ≡ narrowed (more n s c p) → q ≡ narrowed (more n s c P)
+  pub more_of : (s p P q : Tried) → p ≡ narrowed P → q ≡ narrowed (more n s c p) → q ≡ narrowed (more n s c P)
   more_of s p P q e h = (rw e at h) ∙ narrow-more s P
 
-  pub more_both : (s S p P q : Action) → s ≡ narrowed S → p ≡ narrowed P → q ≡ narrowed (more n s c p) → q ≡ narrowed (more n S c P)
+  pub more_both : (s S p P q : Tried) → s ≡ narrowed S → p ≡ narrowed P → q ≡ narrowed (more n s c p) → q ≡ narrowed (more n S c P)
   more_both s S p P q e f h = more_of S p P q f (more_onto s S p q e h)
 
 -- ---- what is told at the end, of a report that 32 bits hold
@@ -148,30 +142,18 @@ word-word a = mod-mod a (2 ^ 32)
 word_both : (a b : ℕ) → word (word a + word b) ≡ word (a + b)
 word_both a b = word-left a (word b) ∙ word_right a b
 
-told_end : (t : Tally) → narrow_work (work_of t) ≡ narrow_work (work_of (narrow (joined t clean)))
-unfolding narrow_work work_of narrow joined clean tested
-told_end t =
-    rw (
-      add-zero t.exponentials,
-      add-zero t.terms,
-      add-zero t.squarings,
-      word-word t.exponentials,
-      word_both t.terms t.squarings,
-    )
+told_end : (t : Report) → narrow_work (work_of t) ≡ narrow_work (work_of (narrow t))
+unfolding narrow_work work_of narrow
+told_end t = rw (word-word t.exponentials, word_both t.terms t.squarings)
 
 -- the work as the code makes it
 pub work_is : (t : Tally) (k : ℕ) → t.exponentials < 2 ^ 32 → k ≡ (t.terms + t.squarings) % 2 ^ 32
-    → record { exponentials = t.exponentials; products = k } ≡ narrow_work (work_of t)
+    → record { exponentials = t.exponentials; products = k } ≡ narrow_work (work_of (report t))
 unfolding narrow_work work_of
 work_is t k h e = rw (word_is t.exponentials h) (unfold word in rw e)
 
--- the step that the code makes of a pass
-pub finished_is : (o : Out) (g : List Float) (w : Work) → w ≡ narrow_work (work_of o.tally)
-    → progress (record { ok = o.tally.ok; kind = o.kind; state = o.x; error = o.e; nonlinear = g; work = w }) ≡ counted_in32 (finish g (stand o))
-unfolding progress progress_kind stand stand_kind under
-finished_is o g w h = go o.tally.ok o.kind
-  where
-    go : (b : Bool) (k : Kind) → cond b (progress_kind k o.x o.e g w) refused ≡ counted_in32 (finish g (in32 (cond b (counting o.tally (stand_kind k o.x o.e)) fails)))
-    go true (Question t) = unfold counted_in32 finish in32 counting in refl
-    go true Done = unfold counted_in32 finish in32 counting in ap (λ z. ended o.x o.e g z) (h ∙ told_end o.tally)
-    go false k = unfold counted_in32 finish in32 in refl
+-- what is told of the end that a pass has reached
+pub told_work : (x e g : List Float) (t : Tally) (s : Stand) (w : Work) → ends x e (narrow (report t)) ≡ in32 s → w ≡ narrow_work (work_of (report t))
+    → ended x e g w ≡ counted_in32 (finish g (in32 s))
+unfolding finish counted_in32
+told_work x e g t s w h k = rw (← h) (ap (λ z. ended x e g z) (k ∙ told_end (report t)))

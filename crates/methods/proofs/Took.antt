@@ -1,5 +1,6 @@
 -- What an exponential takes at the most, and each action of the schemes. Assumes nothing.
 use Rattle.std.proofs.Common.{◌≡◌, ℕ, zero, suc, ◌+◌, ◌*◌, ◌<◌, ◌≤◌, Bool, true, false, cond, T, eqb, ltb, List, [], ◌∷◌, refl, mul-add, arith, lit≤, ltb-true}
+use Rattle.std.specs.Prelude.{Some, None}
 use lib.Ieee.{Float, binary64, fits, of_bits, of_fields, odd}
 use lib.Ieee.Fits.{add-fits, sub-fits, mul-fits, cond-fits}
 use lib.Count.{count_trailing_zeros}
@@ -14,10 +15,8 @@ use Rattle.matrix.proofs.Powers.{squarings-room}
 use Rattle.matrix.proofs.Series.{series_stop, series_go}
 use Rattle.matrix.proofs.Claims.{stops_at_15}
 use Rattle.matrix.proofs.Vectors.{vec_at}
-use Rattle.methods.specs.declared.Tally.{Tally}
-use Rattle.methods.specs.declared.Action.{Action}
 use Rattle.methods.specs.Vectors.{add, subtract, axpy, axpy_all, combine}
-use Rattle.methods.specs.Tally.{tested, clean, unadmitted, single, joined}
+use Rattle.methods.specs.Tally.{Report, Tried, tested, clean, unadmitted, single, joined}
 use Rattle.methods.specs.Phi.{checked, over, more, more_all, nothing, combine_all, augmented_entry, augmented, phi_action, phi_term, exp_action}
 use Rattle.methods.specs.Schemes.{a52, a54}
 use Rattle.methods.specs.Shape.{Doubles, PhiReach}
@@ -30,7 +29,7 @@ term_room true = 15
 term_room false = 129
 
 -- j exponentials, of at most so many terms and 32 squarings each
-pub record Took (b : Bool) (j : ℕ) (t : Tally) : Type 0 where
+pub record Took (b : Bool) (j : ℕ) (t : Report) : Type 0 where
   pub number : t.exponentials ≡ j
   pub terms : t.terms ≤ term_room b * j
   pub squarings : t.squarings ≤ 32 * j
@@ -47,7 +46,7 @@ pub took_unadmitted : (b : Bool) → Took b 0 unadmitted
 unfolding unadmitted
 took_unadmitted b = took_tested b false
 
-pub took_joined : (b : Bool) {j k : ℕ} {x y : Tally} → Took b j x → Took b k y → Took b (j + k) (joined x y)
+pub took_joined : (b : Bool) {j k : ℕ} {x y : Report} → Took b j x → Took b k y → Took b (j + k) (joined x y)
 unfolding joined
 took_joined b {j} {k} p q =
     let room = mul-add (term_room b) j k in
@@ -87,7 +86,7 @@ took_single b m n doubles = go b (admitted m n) doubles refl
     terms false d = unfold term_room in omega (arith, exponential-room m n)
 
     go : (b c : Bool) → (b ≡ true → admitted m n ≡ true → Admitted m n) → admitted m n ≡ c
-        → Took b 1 (single (cond c (record { ok = true; terms = (exponential m n).terms; squarings = (exponential m n).squarings }) (record { ok = false; terms = 0; squarings = 0 })))
+        → Took b 1 (single (cond c (Some (record { terms = (exponential m n).terms; squarings = (exponential m n).squarings })) None))
     go b true d e = record { number = refl; terms = terms b (λ k. d k e); squarings = omega (arith, exponential-squarings m n) }
     go b false d e = record { number = refl; terms = omega arith; squarings = omega arith }
 
@@ -172,11 +171,11 @@ module _ {b : Bool} (n : ℕ) where
   unfolding combine axpy_all
   combine_f (c, y) terms = axpy_all_f (axpy n zeros c y) (axpy_f zeros c y) terms
 
-pub over_t : {b : Bool} {j : ℕ} (f : List Float → List Float) (p : Action) → Took b j p.tally → Took b j (over f p).tally
+pub over_t : {b : Bool} {j : ℕ} (f : List Float → List Float) (p : Tried) → Took b j p.tally → Took b j (over f p).tally
 unfolding over
 over_t f p t = t
 
-more_t : {b : Bool} (n : ℕ) {j k : ℕ} (s : Action) (c : Float) (p : Action) → Took b j s.tally → Took b k p.tally → Took b (j + k) (more n s c p).tally
+more_t : {b : Bool} (n : ℕ) {j k : ℕ} (s : Tried) (c : Float) (p : Tried) → Took b j s.tally → Took b k p.tally → Took b (j + k) (more n s c p).tally
 unfolding more
 more_t {b} n s c p t u = took_joined b t u
 

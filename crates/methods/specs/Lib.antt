@@ -1,11 +1,11 @@
 pub mod Sizes
 pub mod Numbers
 pub mod Vectors
-pub mod Given
 pub mod Tally
 pub mod Phi
 pub mod Pass
 pub mod Schemes
 pub mod Step
 pub mod Parts
+pub mod Scheme
 pub mod Shape

@@ -4,28 +4,26 @@ use Rattle.loops.specs.Loop.{◌!◌}
 use Rattle.float.specs.Arith.{finite}
 use Rattle.evaluation.specs.Evaluation.{all_finite}
 use Rattle.matrix.specs.Vector.{vec, mat_vec}
-use Rattle.methods.specs.declared.Tally.{Tally}
-use Rattle.methods.specs.declared.Action.{Action}
 use Rattle.methods.specs.Numbers.{num, minus}
 use Rattle.evaluation.specs.Sizes.{places}
 use Rattle.methods.specs.Vectors.{subtract, axpy}
-use Rattle.methods.specs.Tally.{clean, joined}
+use Rattle.methods.specs.Tally.{Report, Tried, clean, joined}
 
 -- A pass asks about a state and a time, and goes on with the answer; or it ends in a candidate and an error vector.
 -- The tally is that of the exponentials since the last question.
 pub data Pass : Type 0 where
-  ask : Tally → List Float → Float → (List Float → Pass) → Pass
-  done : Tally → List Float → List Float → Pass
+  ask : Report → List Float → Float → (List Float → Pass) → Pass
+  done : Report → List Float → List Float → Pass
 
 -- more exponentials before the next question or the end
-unfoldable pub also : Tally → Pass → Pass
+unfoldable pub also : Report → Pass → Pass
 also first (ask tally x t next) = ask (joined first tally) x t next
 also first (done tally x e) = done (joined first tally) x e
 
 -- A line of a scheme: a vector worked out at once, one that exponentials were worked out for, or a question with what is made of its answer.
 pub data Line : Type 0 where
   now : List Float → Line
-  try : Action → Line
+  try : Tried → Line
   question : List Float → Float → (List Float → List Float) → Line
 
 infixl 20 ◌>>=◌
@@ -52,16 +50,16 @@ remainder n a stage base f0 time = question stage time (λ value. axpy n (axpy n
 pub data Stand : Type 0 where
   fails : Stand
   asks : List Float → Float → Stand
-  ends : List Float → List Float → Tally → Stand
+  ends : List Float → List Float → Report → Stand
 
 -- an end takes a report in; a pass that asks carries none
-unfoldable pub counting : Tally → Stand → Stand
+unfoldable pub counting : Report → Stand → Stand
 counting tally fails = fails
 counting tally (asks x t) = asks x t
 counting tally (ends x e rest) = ends x e (joined tally rest)
 
 -- a stand under a report: it fails where an exponential was not admitted
-unfoldable pub under : Tally → Stand → Stand
+unfoldable pub under : Report → Stand → Stand
 under tally s = cond tally.ok (counting tally s) fails
 
 -- answer j: its first n places

@@ -1,9 +1,9 @@
 -- The sixteen schemes of methods.rs in the enum's order, a line for each line of the Rust. `n` is the dimension, `a` the Jacobian,
 -- `u` the state, `t` the time, `h` the step, `f0` or `f1` the derivative at u, `au` is a times u, and `g` is f0 - au. Definitions only.
-use Rattle.std.specs.Prelude.{ℕ, Bool, true, false, cond, List, [], ◌∷◌, ◌==◌, Float}
+use Rattle.std.specs.Prelude.{ℕ, Bool, true, false, cond, Option, Some, None, List, [], ◌∷◌, ◌==◌, Float}
 use Rattle.float.specs.Arith.{◌⊕◌, ◌⊗◌, ◌⊘◌, powi2, powi3, powi4}
 use Rattle.matrix.specs.Vector.{zeros, mat_vec}
-use Rattle.methods.specs.declared.Action.{Action}
+use Rattle.methods.specs.Tally.{Tried}
 use Rattle.methods.specs.Numbers.{num, minus, decimal, minus_decimal}
 use Rattle.methods.specs.Vectors.{add, subtract, scale, axpy, combine}
 use Rattle.methods.specs.Tally.{clean}
@@ -76,7 +76,7 @@ etdrk4 n a u t h f1 au =
       candidate (add n u increment)
 
 -- HochOst4's combinations of phi terms
-unfoldable pub a52 : ℕ → List Float → Float → List Float → Action
+unfoldable pub a52 : ℕ → List Float → Float → List Float → Tried
 a52 n a h v =
     let half = h ⊘ num 2 in
     combine_all n (
@@ -86,7 +86,7 @@ a52 n a h v =
     ∷ (minus_decimal 5 1, phi_term n a half 3 (num 1) v)
     ∷ [])
 
-unfoldable pub a54 : ℕ → List Float → Float → List Float → Action
+unfoldable pub a54 : ℕ → List Float → Float → List Float → Tried
 a54 n a h v = combine_all n ((decimal 25 2, phi_term n a (h ⊘ num 2) 2 (num 1) v) ∷ (minus 1, a52 n a h v) ∷ [])
 
 unfoldable pub hoch_ost4 : ℕ → List Float → List Float → Float → Float → List Float → List Float → Pass
@@ -152,7 +152,7 @@ exp4 n a u t h f0 = do
   candidate (add n u (scale n increment h))
 
 -- what the two variants of epirk4s3 share; k2 and k3 are their first two phi terms
-unfoldable pub epirk4s3 : ℕ → List Float → List Float → Float → Float → List Float → Action → Action → Float → Float → Float → Float → Float → Float → Pass
+unfoldable pub epirk4s3 : ℕ → List Float → List Float → Float → Float → List Float → Tried → Tried → Float → Float → Float → Float → Float → Float → Pass
 epirk4s3 n a u t h f0 k2 k3 c2 c3 r2c r3c q2c q3c = do
   k2 ← try k2
   k3 ← try k3
@@ -281,15 +281,15 @@ epirk5p2 n a u t h f0 =
     let b33 = decimal 5267263316169096 15 in
     epirk5p n a u t h f0 g11 g21 g32 g33 a22 b2 b31 b32 b33 2 true
 
--- `held` says whether there is a previous nonlinear part
-unfoldable pub etd2 : ℕ → List Float → List Float → Float → List Float → Bool → List Float → Pass
-etd2 n a u h g true previous = do
+-- with the previous nonlinear part, where there is one
+unfoldable pub etd2 : ℕ → List Float → List Float → Float → List Float → Option (List Float) → Pass
+etd2 n a u h g (Some previous) = do
   output ← try (exp_action n a h u)
   output ← try (over (axpy n output (num 1)) (phi_term n a h 1 h g))
   output ← try (over (axpy n output (num 1)) (phi_term n a h 2 h g))
   output ← try (over (axpy n output (minus 1)) (phi_term n a h 2 h previous))
   candidate output
-etd2 n a u h g false previous = do
+etd2 n a u h g None = do
   output ← try (exp_action n a h u)
   output ← try (over (axpy n output (num 1)) (phi_term n a h 1 h g))
   candidate output

@@ -1,13 +1,13 @@
 -- The shape of a scheme's pass, whatever the answers: how many questions it asks, how many exponentials it makes, and that every vector it asks about or ends in has
 -- 16 places, +0.0 past n; and what the exponentials take at the most. Definitions only.
-use Rattle.std.specs.Prelude.{◌≡◌, ℕ, suc, ◌+◌, ◌*◌, ◌<◌, ◌≤◌, Bool, true, T, List, length, Float}
+use Rattle.std.specs.Prelude.{◌≡◌, ℕ, suc, ◌+◌, ◌*◌, ◌<◌, ◌≤◌, Bool, true, T, IfSome, is_some, List, length, Float}
 use Rattle.std.specs.Float.{binary64}
 use Rattle.std.specs.Float.Ieee.{fits}
 use Rattle.loops.specs.Loop.{◌!◌}
 use Rattle.float.specs.Arith.{zero+, finite}
 use Rattle.evaluation.specs.Evaluation.{all_finite}
 use Rattle.methods.specs.declared.Point.{Point}
-use Rattle.methods.specs.declared.Tally.{Tally}
+use Rattle.methods.specs.Tally.{Report}
 use Rattle.methods.specs.declared.Work.{Work}
 use Rattle.matrix.specs.Matrix.{Few}
 use Rattle.methods.specs.Phi.{phi_action}
@@ -17,14 +17,14 @@ use Rattle.methods.specs.Step.{pass, questions, exponentials, asking, ended, fin
 
 -- every way through the pass asks exactly so many questions
 pub data Asks : ℕ → Pass → Type 0 where
-  asks_more : {m : ℕ} {tally : Tally} {x : List Float} {time : Float} {next : List Float → Pass} → ((answer : List Float) → Asks m (next answer)) → Asks (suc m) (ask tally x time next)
-  asks_none : {tally : Tally} {x e : List Float} → Asks 0 (done tally x e)
+  asks_more : {m : ℕ} {tally : Report} {x : List Float} {time : Float} {next : List Float → Pass} → ((answer : List Float) → Asks m (next answer)) → Asks (suc m) (ask tally x time next)
+  asks_none : {tally : Report} {x e : List Float} → Asks 0 (done tally x e)
 
 -- every way through the pass makes exactly so many exponentials, those of each question and of the end counted
 pub data Makes : ℕ → Pass → Type 0 where
-  makes_more : {m : ℕ} {tally : Tally} {x : List Float} {time : Float} {next : List Float → Pass}
+  makes_more : {m : ℕ} {tally : Report} {x : List Float} {time : Float} {next : List Float → Pass}
       → ((answer : List Float) → Makes m (next answer)) → Makes (tally.exponentials + m) (ask tally x time next)
-  makes_last : {tally : Tally} {x e : List Float} → Makes tally.exponentials (done tally x e)
+  makes_last : {tally : Report} {x e : List Float} → Makes tally.exponentials (done tally x e)
 
 -- a vector of n: 16 places, +0.0 from place n on
 pub record Vector (n : ℕ) (x : List Float) : Type 0 where
@@ -33,8 +33,8 @@ pub record Vector (n : ℕ) (x : List Float) : Type 0 where
 
 -- every state asked about, every candidate and every error vector is a vector of n
 pub data Vectors (n : ℕ) : Pass → Type 0 where
-  asked_vector : {tally : Tally} {x : List Float} {time : Float} {next : List Float → Pass} → Vector n x → ((answer : List Float) → Vectors n (next answer)) → Vectors n (ask tally x time next)
-  ended_vectors : {tally : Tally} {x e : List Float} → Vector n x → Vector n e → Vectors n (done tally x e)
+  asked_vector : {tally : Report} {x : List Float} {time : Float} {next : List Float → Pass} → Vector n x → ((answer : List Float) → Vectors n (next answer)) → Vectors n (ask tally x time next)
+  ended_vectors : {tally : Report} {x e : List Float} → Vector n x → Vector n e → Vectors n (done tally x e)
 
 -- a vector of n whose places are all finite
 pub record Whole (n : ℕ) (x : List Float) : Type 0 where
@@ -71,7 +71,7 @@ AsksQuestions = (k : ℕ) (p : Point) (a au nonlinear0 : List Float) → Asks (q
 
 -- it makes `exponentials k` exponentials, with or without a previous nonlinear part; above 15 it makes none
 abbrev pub MakesExponentials : Type 0
-MakesExponentials = (k : ℕ) (p : Point) (a au nonlinear0 : List Float) → Makes (exponentials k p.held) (pass k p a au nonlinear0)
+MakesExponentials = (k : ℕ) (p : Point) (a au nonlinear0 : List Float) → Makes (exponentials k (is_some p.previous)) (pass k p a au nonlinear0)
 
 -- no scheme makes more than 34
 abbrev pub AtMost34 : Type 0
@@ -103,9 +103,9 @@ StepWork =
     (k : ℕ) (p : Point) (a : List Float) (count j : ℕ) (answers : List Float) (x e g : List Float) (work : Work)
     → p.n ≤ 16
     → Doubles p.n p.f0
-    → Doubles p.n p.previous
+    → IfSome p.previous (Doubles p.n)
     → perform_step k p a count j answers ≡ ended x e g work
-    → Worked (exponentials k p.held) work
+    → Worked (exponentials k (is_some p.previous)) work
 
 -- a phi action of order up to 4 on doubles goes no further than its exponential may
 abbrev pub PhiReach : Type 0

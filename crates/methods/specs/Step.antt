@@ -1,11 +1,10 @@
 -- perform_step: the choice by number, and what stands around it. Definitions only.
-use Rattle.std.specs.Prelude.{ℕ, Bool, cond, ◌&&◌, List, [], ◌∷◌, slice_index, slice_index_or, Float}
+use Rattle.std.specs.Prelude.{ℕ, Bool, cond, ◌&&◌, Option, Some, None, List, [], ◌∷◌, slice_index, slice_index_or, Float}
 use Rattle.evaluation.specs.Evaluation.{all_finite}
 use Rattle.matrix.specs.Vector.{zeros, mat_vec}
-use Rattle.methods.specs.declared.Kind.{Kind}
-use Rattle.methods.specs.declared.Kind.TheVariants.{Question, Done}
 use Rattle.methods.specs.declared.Point.{Point}
 use Rattle.methods.specs.declared.StepResult.{StepResult}
+use Rattle.methods.specs.declared.StepResult.TheVariants.{Question, Done}
 use Rattle.methods.specs.declared.Work.{Work}
 use Rattle.methods.specs.Vectors.{subtract}
 use Rattle.methods.specs.Tally.{unadmitted, work_of}
@@ -35,7 +34,7 @@ pass k p a au nonlinear0 =
     ∷ exprb53s3 n a u t h f0
     ∷ epirk5p1 n a u t h f0
     ∷ epirk5p2 n a u t h f0
-    ∷ etd2 n a u h nonlinear0 p.held p.previous
+    ∷ etd2 n a u h nonlinear0 p.previous
     ∷ exprb32 n a u t h f0
     ∷ exprb43 n a u t h f0 au
     ∷ []) k (done unadmitted zeros zeros)
@@ -75,10 +74,8 @@ perform_step k p a count j answers =
     let nonlinear0 = subtract p.n p.f0 au in
     cond (all_finite au && all_finite nonlinear0) (finish nonlinear0 (replay p.n (pass k p a au nonlinear0) count j answers)) refused
 
--- what the code's record says of it
-unfoldable pub progress_kind : Kind → List Float → List Float → List Float → Work → Progress
-progress_kind (Question t) x e g work = asking x t
-progress_kind Done x e g work = ended x e g work
-
-unfoldable pub progress : StepResult → Progress
-progress r = cond r.ok (progress_kind r.kind r.state r.error r.nonlinear r.work) refused
+-- what the code's result says of it
+unfoldable pub progress : Option StepResult → Progress
+progress None = refused
+progress (Some (Question x t)) = asking x t
+progress (Some (Done x e g work)) = ended x e g work

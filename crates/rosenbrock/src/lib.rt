@@ -4,143 +4,124 @@
 // come does not use is only tested.
 #![tactic(auto)]
 
-ghost use Rattle.std.specs.Prelude.{◌≡◌, ◌+◌, ◌-◌, ◌≤◌};
+ghost use Rattle.std.specs.Prelude.{◌≡◌, ◌≤◌};
 ghost use Rattle.matrix.specs.Vector.{mat_vec};
-ghost use Rattle.methods.specs.Given.{Given};
-ghost use Rattle.methods.specs.Pass.{under, replay};
-ghost use Rattle.methods.specs.Parts.{in32, stand};
+ghost use Rattle.methods.specs.Parts.{in32, stand, replay_from, reached};
 ghost use Rattle.methods.specs.Schemes.{exprb32, exprb43, exprb53s3};
 ghost use Rattle.rosenbrock.specs.Stages.{exprb32_2, exprb43_2, exprb43_3, exprb53s3_2, exprb53s3_3};
 
 use methods::{
-    Out, PLACES, Point, Tally, Vector, add, add_term, after, asked, axpy, combine2, ended, joined,
-    may_ask, phi_action, phi_if, phi_term, phi_term_if, remainder, scale, shifted_stage,
+    PLACES, Point, Reached, Replay, Tally, Vector, add, after, asked, axpy, combine2, ended, scale,
 };
 
 // ---- exprb32
 
-pub fn exprb32(p: Point, a: &[f64], au: Vector, answers: &[f64], first: usize, count: usize) -> Out
-    requires given { Given p.n a.now answers.now first }
-    requires au_value { au ≡ mat_vec p.n a.now p.state }
-    ensures { stand result ≡ in32 (replay p.n (exprb32 p.n a.now p.state p.time p.step p.f0) count first answers.now) }
+#[inline(never)]
+pub fn exprb32(r: &Replay<'_>, au: Vector) -> Option<Reached>
+    requires { au ≡ mat_vec r.now.point.n r.now.jacobian.now r.now.point.state }
+    ensures { stand result ≡ in32 (replay_from r.now 0 (exprb32 r.now.point.n r.now.jacobian.now r.now.point.state r.now.point.time r.now.point.step r.now.point.f0)) }
 {
-    let n = p.n;
-    let h = p.step;
-    let u = p.state;
-    let f1 = p.f0;
-    let k1 = phi_action(a, h, 1, f1, n);
-    let w1 = k1.v;
-    let u2 = add(u, scale(w1, h, n), n);
-    exprb32_2(p, a, au, answers, first, count, k1.tally, w1, u2)
+    let Point {
+        n,
+        step: h,
+        state: u,
+        f0: f1,
+        ..
+    } = r.point;
+    let k1 = r.phi_action(h, 1, f1)?;
+    let u2 = add(u, scale(k1.v, h, n), n);
+    exprb32_2(r, au, k1.tally, k1.v, u2)
 }
 
-fn exprb32_2(
-    p: Point,
-    a: &[f64],
-    au: Vector,
-    answers: &[f64],
-    first: usize,
-    count: usize,
-    tally: Tally,
-    w1: Vector,
-    u2: Vector,
-) -> Out
-    requires { Given p.n a.now answers.now first }
-    ensures { stand result ≡ in32 (under tally (replay p.n (exprb32_2 p a.now au w1 u2) count first answers.now)) }
+fn exprb32_2(r: &Replay<'_>, au: Vector, tally: Tally, w1: Vector, u2: Vector) -> Option<Reached>
+    ensures { stand result ≡ reached r.now 0 tally (exprb32_2 r.now.point r.now.jacobian.now au w1 u2) }
 {
-    let n = p.n;
-    let t = p.time;
-    let h = p.step;
-    let u = p.state;
-    let f1 = p.f0;
-    let tally = may_ask(tally, u2, t + h);
-    if count == 0 {
-        return asked(tally, u2, t + h);
+    let Point {
+        n,
+        time: t,
+        step: h,
+        state: u,
+        f0: f1,
+        ..
+    } = r.point;
+    let question = asked(u2, t + h)?;
+    if r.count == 0 {
+        return Some(question);
     }
-    let f2 = shifted_stage(a, u2, au, answers, first, n);
-    let k13 = phi_action(a, h, 3, f1, n);
-    let k23 = phi_action(a, h, 3, f2, n);
-    let tally = joined(joined(tally, k13.tally), k23.tally);
-    let w13 = k13.v;
-    let w23 = k23.v;
+    let f2 = r.shifted_stage(u2, au, 0);
+    let k13 = r.phi_action(h, 3, f1)?;
+    let k23 = r.phi_action(h, 3, f2)?;
+    let tally = tally.joined(k13.tally).joined(k23.tally);
     let increment = scale(w1, h, n);
-    let increment = axpy(increment, -2.0 * h, w13, n);
-    let increment = axpy(increment, 2.0 * h, w23, n);
-    let error = scale(w23, 2.0 * h, n);
-    let error = axpy(error, -2.0 * h, w13, n);
+    let increment = axpy(increment, -2.0 * h, k13.v, n);
+    let increment = axpy(increment, 2.0 * h, k23.v, n);
+    let error = scale(k23.v, 2.0 * h, n);
+    let error = axpy(error, -2.0 * h, k13.v, n);
     ended(tally, add(u, increment, n), error)
 }
 
 // ---- exprb43
 
-pub fn exprb43(p: Point, a: &[f64], au: Vector, answers: &[f64], first: usize, count: usize) -> Out
-    requires { Given p.n a.now answers.now first }
-    ensures { stand result ≡ in32 (replay p.n (exprb43 p.n a.now p.state p.time p.step p.f0 au) count first answers.now) }
+#[inline(never)]
+pub fn exprb43(r: &Replay<'_>, au: Vector) -> Option<Reached>
+    ensures { stand result ≡ in32 (replay_from r.now 0 (exprb43 r.now.point.n r.now.jacobian.now r.now.point.state r.now.point.time r.now.point.step r.now.point.f0 au)) }
 {
-    let n = p.n;
-    let h = p.step;
-    let u = p.state;
-    let f1 = p.f0;
-    let k1h = phi_action(a, h / 2.0, 1, f1, n);
-    let last = 2 <= count;
-    let k11 = phi_if(last, a, h, 1, f1, n);
-    let k13 = phi_if(last, a, h, 3, f1, n);
-    let k14 = phi_if(last, a, h, 4, f1, n);
-    let tally = joined(joined(joined(k1h.tally, k11.tally), k13.tally), k14.tally);
-    let w1h = k1h.v;
-    let w11 = k11.v;
-    let w13 = k13.v;
-    let w14 = k14.v;
-    let u2 = add(u, scale(w1h, h / 2.0, n), n);
-    exprb43_2(p, a, au, answers, first, count, tally, w11, w13, w14, u2)
+    let Point {
+        n,
+        step: h,
+        state: u,
+        f0: f1,
+        ..
+    } = r.point;
+    let k1h = r.phi_action(h / 2.0, 1, f1)?;
+    let last = 2 <= r.count;
+    let k11 = r.phi_if(last, h, 1, f1)?;
+    let k13 = r.phi_if(last, h, 3, f1)?;
+    let k14 = r.phi_if(last, h, 4, f1)?;
+    let tally = k1h
+        .tally
+        .joined(k11.tally)
+        .joined(k13.tally)
+        .joined(k14.tally);
+    let u2 = add(u, scale(k1h.v, h / 2.0, n), n);
+    exprb43_2(r, au, tally, k11.v, k13.v, k14.v, u2)
 }
 
 fn exprb43_2(
-    p: Point,
-    a: &[f64],
+    r: &Replay<'_>,
     au: Vector,
-    answers: &[f64],
-    first: usize,
-    count: usize,
     tally: Tally,
     w11: Vector,
     w13: Vector,
     w14: Vector,
     u2: Vector,
-) -> Out
-    requires { Given p.n a.now answers.now first }
-    ensures { stand result ≡ in32 (under tally (replay p.n (exprb43_2 p a.now au w11 w13 w14 u2) count first answers.now)) }
+) -> Option<Reached>
+    ensures { stand result ≡ reached r.now 0 tally (exprb43_2 r.now.point r.now.jacobian.now au w11 w13 w14 u2) }
 {
-    let n = p.n;
-    let t = p.time;
-    let h = p.step;
-    let u = p.state;
-    let tally = may_ask(tally, u2, t + h / 2.0);
-    if count == 0 {
-        return asked(tally, u2, t + h / 2.0);
+    let Point {
+        n,
+        time: t,
+        step: h,
+        state: u,
+        ..
+    } = r.point;
+    let question = asked(u2, t + h / 2.0)?;
+    if r.count == 0 {
+        return Some(question);
     }
-    let f2 = shifted_stage(a, u2, au, answers, first, n);
-    let k21 = phi_action(a, h, 1, f2, n);
-    let last = 2 <= count;
-    let k23 = phi_if(last, a, h, 3, f2, n);
-    let k24 = phi_if(last, a, h, 4, f2, n);
-    let tally = joined(joined(joined(tally, k21.tally), k23.tally), k24.tally);
-    let w21 = k21.v;
-    let w23 = k23.v;
-    let w24 = k24.v;
-    let u3 = add(u, scale(w21, h, n), n);
-    exprb43_3(
-        p, a, au, answers, first, count, tally, w11, w13, w14, w23, w24, u3,
-    )
+    let f2 = r.shifted_stage(u2, au, 0);
+    let k21 = r.phi_action(h, 1, f2)?;
+    let last = 2 <= r.count;
+    let k23 = r.phi_if(last, h, 3, f2)?;
+    let k24 = r.phi_if(last, h, 4, f2)?;
+    let tally = tally.joined(k21.tally).joined(k23.tally).joined(k24.tally);
+    let u3 = add(u, scale(k21.v, h, n), n);
+    exprb43_3(r, au, tally, w11, w13, w14, k23.v, k24.v, u3)
 }
 
 fn exprb43_3(
-    p: Point,
-    a: &[f64],
+    r: &Replay<'_>,
     au: Vector,
-    answers: &[f64],
-    first: usize,
-    count: usize,
     tally: Tally,
     w11: Vector,
     w13: Vector,
@@ -148,119 +129,105 @@ fn exprb43_3(
     w23: Vector,
     w24: Vector,
     u3: Vector,
-) -> Out
-    requires given { Given p.n a.now answers.now first }
-    requires le_count { 1 ≤ count }
-    ensures { stand result ≡ in32 (under tally (replay p.n (exprb43_3 p a.now au w11 w13 w14 w23 w24 u3) (count - 1) (first + 1) answers.now)) }
+) -> Option<Reached>
+    requires { 1 ≤ r.now.count }
+    ensures { stand result ≡ reached r.now 1 tally (exprb43_3 r.now.point r.now.jacobian.now au w11 w13 w14 w23 w24 u3) }
 {
-    let n = p.n;
-    let t = p.time;
-    let h = p.step;
-    let u = p.state;
-    let tally = may_ask(tally, u3, t + h);
-    if count == 1 {
-        return asked(tally, u3, t + h);
+    let Point {
+        n,
+        time: t,
+        step: h,
+        state: u,
+        ..
+    } = r.point;
+    let question = asked(u3, t + h)?;
+    if r.count == 1 {
+        return Some(question);
     }
-    let f3 = shifted_stage(a, u3, au, answers, first + 1, n);
-    let k33 = phi_action(a, h, 3, f3, n);
-    let k34 = phi_action(a, h, 4, f3, n);
-    let tally = joined(joined(tally, k33.tally), k34.tally);
-    let w33 = k33.v;
-    let w34 = k34.v;
+    let f3 = r.shifted_stage(u3, au, 1);
+    let k33 = r.phi_action(h, 3, f3)?;
+    let k34 = r.phi_action(h, 4, f3)?;
+    let tally = tally.joined(k33.tally).joined(k34.tally);
     let increment = scale(w11, h, n);
     let increment = axpy(increment, -14.0 * h, w13, n);
     let increment = axpy(increment, 36.0 * h, w14, n);
     let increment = axpy(increment, 16.0 * h, w23, n);
     let increment = axpy(increment, -48.0 * h, w24, n);
-    let increment = axpy(increment, -2.0 * h, w33, n);
-    let increment = axpy(increment, 12.0 * h, w34, n);
+    let increment = axpy(increment, -2.0 * h, k33.v, n);
+    let increment = axpy(increment, 12.0 * h, k34.v, n);
     let error = scale(w14, 36.0 * h, n);
     let error = axpy(error, -48.0 * h, w24, n);
-    let error = axpy(error, 12.0 * h, w34, n);
+    let error = axpy(error, 12.0 * h, k34.v, n);
     ended(tally, add(u, increment, n), error)
 }
 
 // ---- exprb53s3
 
-pub fn exprb53s3(p: Point, a: &[f64], answers: &[f64], first: usize, count: usize) -> Out
-    requires { Given p.n a.now answers.now first }
-    ensures { stand result ≡ in32 (replay p.n (exprb53s3 p.n a.now p.state p.time p.step p.f0) count first answers.now) }
+#[inline(never)]
+pub fn exprb53s3(r: &Replay<'_>) -> Option<Reached>
+    ensures { stand result ≡ in32 (replay_from r.now 0 (exprb53s3 r.now.point.n r.now.jacobian.now r.now.point.state r.now.point.time r.now.point.step r.now.point.f0)) }
 {
-    let n = p.n;
-    let h = p.step;
-    let u = p.state;
-    let f0 = p.f0;
-    let k2 = phi_term(a, h / 2.0, 1, h / 2.0, f0, n);
-    let k3base = phi_term_if(1 <= count, a, 0.9 * h, 1, 0.9 * h, f0, n);
-    let tally = joined(k2.tally, k3base.tally);
-    let v2 = k2.v;
-    let v3base = k3base.v;
-    let u2 = add(u, v2, n);
-    exprb53s3_2(p, a, answers, first, count, tally, v3base, u2)
+    let Point {
+        n,
+        step: h,
+        state: u,
+        f0,
+        ..
+    } = r.point;
+    let k2 = r.phi_term(h / 2.0, 1, h / 2.0, f0)?;
+    let k3base = r.phi_term_if(1 <= r.count, 0.9 * h, 1, 0.9 * h, f0)?;
+    let tally = k2.tally.joined(k3base.tally);
+    let u2 = add(u, k2.v, n);
+    exprb53s3_2(r, tally, k3base.v, u2)
 }
 
-fn exprb53s3_2(
-    p: Point,
-    a: &[f64],
-    answers: &[f64],
-    first: usize,
-    count: usize,
-    tally: Tally,
-    k3base: Vector,
-    u2: Vector,
-) -> Out
-    requires { Given p.n a.now answers.now first }
-    ensures { stand result ≡ in32 (under tally (replay p.n (exprb53s3_2 p a.now k3base u2) count first answers.now)) }
+fn exprb53s3_2(r: &Replay<'_>, tally: Tally, k3base: Vector, u2: Vector) -> Option<Reached>
+    ensures { stand result ≡ reached r.now 0 tally (exprb53s3_2 r.now.point r.now.jacobian.now k3base u2) }
 {
-    let n = p.n;
-    let t = p.time;
-    let h = p.step;
-    let u = p.state;
-    let f0 = p.f0;
-    let tally = may_ask(tally, u2, t + h / 2.0);
-    if count == 0 {
-        return asked(tally, u2, t + h / 2.0);
+    let Point {
+        n,
+        time: t,
+        step: h,
+        state: u,
+        f0,
+        ..
+    } = r.point;
+    let question = asked(u2, t + h / 2.0)?;
+    if r.count == 0 {
+        return Some(question);
     }
-    let r2 = remainder(a, u2, u, f0, answers, first, n);
-    let k3 = phi_term(a, h / 2.0, 3, float::powi3(h / 2.0), r2, n);
-    let s3 = after(add(u, k3base, n), 216.0 / (25.0 * h * h), k3, n);
+    let r2 = r.remainder(u2, 0);
+    let u3 = add(u, k3base, n);
+    let k3 = r.phi_term(h / 2.0, 3, float::powi3(h / 2.0), r2)?;
+    let s3 = after(u3, 216.0 / (25.0 * h * h), k3, n);
     let cube = float::powi3(0.9 * h);
-    let s3 = add_term(s3, 8.0 / (h * h), a, 0.9 * h, 3, cube, r2, n);
-    let u3 = s3.v;
-    let tally = joined(tally, s3.tally);
-    exprb53s3_3(p, a, answers, first, count, tally, r2, u3)
+    let s3 = r.add_term(s3, 8.0 / (h * h), 0.9 * h, 3, cube, r2)?;
+    let tally = tally.joined(s3.tally);
+    exprb53s3_3(r, tally, r2, s3.v)
 }
 
-fn exprb53s3_3(
-    p: Point,
-    a: &[f64],
-    answers: &[f64],
-    first: usize,
-    count: usize,
-    tally: Tally,
-    r2: Vector,
-    u3: Vector,
-) -> Out
-    requires given { Given p.n a.now answers.now first }
-    requires le_count { 1 ≤ count }
-    ensures { stand result ≡ in32 (under tally (replay p.n (exprb53s3_3 p a.now r2 u3) (count - 1) (first + 1) answers.now)) }
+fn exprb53s3_3(r: &Replay<'_>, tally: Tally, r2: Vector, u3: Vector) -> Option<Reached>
+    requires { 1 ≤ r.now.count }
+    ensures { stand result ≡ reached r.now 1 tally (exprb53s3_3 r.now.point r.now.jacobian.now r2 u3) }
 {
-    let n = p.n;
-    let t = p.time;
-    let h = p.step;
-    let u = p.state;
-    let f0 = p.f0;
-    let tally = may_ask(tally, u3, t + 0.9 * h);
-    if count == 1 {
-        return asked(tally, u3, t + 0.9 * h);
+    let Point {
+        n,
+        time: t,
+        step: h,
+        state: u,
+        f0,
+        ..
+    } = r.point;
+    let question = asked(u3, t + 0.9 * h)?;
+    if r.count == 1 {
+        return Some(question);
     }
-    let r3 = remainder(a, u3, u, f0, answers, first + 1, n);
+    let r3 = r.remainder(u3, 1);
     let cube = float::powi3(h);
     let b4 = combine2(18.0 / (h * h), r2, -250.0 / (81.0 * h * h), r3, n);
     let b5 = combine2(-60.0 / cube, r2, 500.0 / (27.0 * cube), r3, n);
-    let k = phi_term(a, h, 1, h, f0, n);
-    let k = add_term(k, 1.0, a, h, 3, cube, b4, n);
-    let k = add_term(k, 1.0, a, h, 4, float::powi4(h), b5, n);
-    let increment = k.v;
-    ended(joined(tally, k.tally), add(u, increment, n), [0.0; PLACES])
+    let k = r.phi_term(h, 1, h, f0)?;
+    let k = r.add_term(k, 1.0, h, 3, cube, b4)?;
+    let k = r.add_term(k, 1.0, h, 4, float::powi4(h), b5)?;
+    ended(tally.joined(k.tally), add(u, k.v, n), [0.0; PLACES])
 }

@@ -1,103 +1,43 @@
 // methods.rs: perform_step, the choice of a scheme by its number and what stands around it.
 #![tactic(auto)]
 
-ghost use Rattle.std.specs.Prelude.{◌≡◌, List, ◌≤◌, Float};
+ghost use Rattle.std.specs.Prelude.{◌≡◌, ◌≤◌};
 ghost use Rattle.matrix.specs.Vector.{mat_vec};
-ghost use Rattle.methods.specs.Given.{Given};
-ghost use Rattle.methods.specs.Pass.{replay};
-ghost use Rattle.methods.specs.Parts.{in32, counted_in32, stand};
-ghost use Rattle.methods.specs.Step.{pass, questions, finish, perform_step, progress};
+ghost use Rattle.methods.specs.Parts.{in32, stand, replay_from};
+ghost use Rattle.methods.specs.Scheme.{number_of};
+ghost use Rattle.methods.specs.Step.{pass, questions, perform_step, progress};
 
 use exp4_epirk::{epirk4s3_a, epirk4s3_b, epirk5p1, epirk5p2, epirk5s3, exp4};
 use lawson_etd::{etd2, etdrk2, etdrk3, etdrk4, hoch_ost4, lawson_euler, norsett_euler};
-use methods::{
-    Out, PLACES, Point, StepResult, Vector, ended, not_allowed, subtract, unadmitted, work_of,
-};
+use methods::{Reached, Replay, Scheme, StepResult, Vector, subtract};
 use rosenbrock::{exprb32, exprb43, exprb53s3};
 
-// The pass of a Lawson or ETD scheme: 0 to 5, and 13.
-fn lawson_etd_pass(
-    scheme: u8,
-    p: Point,
-    a: &[f64],
-    au: Vector,
-    g: Vector,
-    answers: &[f64],
-    first: usize,
-    count: usize,
-) -> Out
-    requires given { Given p.n a.now answers.now first }
-    requires scheme_value { 6 ≤ scheme → scheme ≡ 13 }
-    ensures { stand result ≡ in32 (replay p.n (pass scheme p a.now au g) count first answers.now) }
-{
-    let n = p.n;
-    let h = p.step;
-    let u = p.state;
-    let f0 = p.f0;
-    let previous = p.previous;
-    match scheme {
-        0 => lawson_euler(a, u, g, h, n),
-        1 => norsett_euler(a, u, f0, h, n),
-        2 => etdrk2(p, a, g, answers, first, count),
-        3 => etdrk3(p, a, au, answers, first, count),
-        4 => etdrk4(p, a, au, answers, first, count),
-        5 => hoch_ost4(p, a, au, answers, first, count),
-        _ => etd2(a, u, h, g, p.held, previous, n),
-    }
-}
-
-// The pass of any other scheme; above 15 there is none. They do not use g.
-fn other_pass(
-    scheme: u8,
-    p: Point,
-    a: &[f64],
-    au: Vector,
-    answers: &[f64],
-    first: usize,
-    count: usize,
-) -> Out
-    requires given { Given p.n a.now answers.now first }
-    requires au_value { au ≡ mat_vec p.n a.now p.state }
-    requires le_scheme { (6 ≤ scheme) × (scheme ≡ 13 → ⊥) }
-    ensures { (g : List Float) → stand result ≡ in32 (replay p.n (pass scheme p a.now au g) count first answers.now) }
+// The pass of a scheme. None of them is compiled into it, so that a call has no room for the others.
+fn pass(scheme: Scheme, r: &Replay<'_>, au: Vector, g: Vector) -> Option<Reached>
+    requires { au ≡ mat_vec r.now.point.n r.now.jacobian.now r.now.point.state }
+    ensures { stand result ≡ in32 (replay_from r.now 0 (pass (number_of scheme) r.now.point r.now.jacobian.now au g)) }
 {
     match scheme {
-        6 => exp4(p, a, answers, first, count),
-        7 => epirk4s3_a(p, a, answers, first, count),
-        8 => epirk4s3_b(p, a, answers, first, count),
-        9 => epirk5s3(p, a, answers, first, count),
-        10 => exprb53s3(p, a, answers, first, count),
-        11 => epirk5p1(p, a, answers, first, count),
-        12 => epirk5p2(p, a, answers, first, count),
-        14 => exprb32(p, a, au, answers, first, count),
-        15 => exprb43(p, a, au, answers, first, count),
-        _ => ended(unadmitted(), [0.0; PLACES], [0.0; PLACES]),
+        Scheme::LawsonEuler => lawson_euler(r, g),
+        Scheme::NorsettEuler => norsett_euler(r),
+        Scheme::Etdrk2 => etdrk2(r, g),
+        Scheme::Etdrk3 => etdrk3(r, au),
+        Scheme::Etdrk4 => etdrk4(r, au),
+        Scheme::HochOst4 => hoch_ost4(r, au),
+        Scheme::Exp4 => exp4(r),
+        Scheme::Epirk4s3A => epirk4s3_a(r),
+        Scheme::Epirk4s3B => epirk4s3_b(r),
+        Scheme::Epirk5s3 => epirk5s3(r),
+        Scheme::Exprb53s3 => exprb53s3(r),
+        Scheme::Epirk5P1 => epirk5p1(r),
+        Scheme::Epirk5P2 => epirk5p2(r),
+        Scheme::Etd2 => etd2(r, g),
+        Scheme::Exprb32 => exprb32(r, au),
+        Scheme::Exprb43 => exprb43(r, au),
     }
 }
 
-// The pass of the scheme with this number, by two functions: a call has no room for the schemes of the other.
-fn chosen(
-    scheme: u8,
-    p: Point,
-    a: &[f64],
-    au: Vector,
-    g: Vector,
-    answers: &[f64],
-    first: usize,
-    count: usize,
-) -> Out
-    requires given { Given p.n a.now answers.now first }
-    requires au_value { au ≡ mat_vec p.n a.now p.state }
-    ensures { stand result ≡ in32 (replay p.n (pass scheme p a.now au g) count first answers.now) }
-{
-    if (scheme < 6) | (scheme == 13) {
-        lawson_etd_pass(scheme, p, a, au, g, answers, first, count)
-    } else {
-        other_pass(scheme, p, a, au, answers, first, count)
-    }
-}
-
-// How many questions the pass of a scheme asks.
+// How many questions the pass of a scheme asks; above 15 there is none.
 pub fn questions(scheme: u8) -> usize
     ensures { (result ≡ questions scheme) × (result ≤ 4) }
 {
@@ -108,47 +48,20 @@ pub fn questions(scheme: u8) -> usize
     0
 }
 
-// A pass's stand, with the nonlinear part, and the work that it took as 32 bits hold it.
-fn finished(o: Out, nonlinear: Vector) -> StepResult
-    ensures { progress result ≡ counted_in32 (finish nonlinear (stand o)) }
-{
-    let tally = o.tally;
-    let kind = o.kind;
-    let state = o.x;
-    let error = o.e;
-    StepResult {
-        ok: tally.ok,
-        kind,
-        state,
-        error,
-        nonlinear,
-        work: work_of(tally),
-    }
-}
-
 // A step over the answers so far: it is refused by 6, asks, or has ended.
-pub fn perform_step(
-    scheme: u8,
-    p: Point,
-    a: &[f64],
-    answers: &[f64],
-    first: usize,
-    count: usize,
-) -> StepResult
-    requires { Given p.n a.now answers.now first }
-    ensures { progress result ≡ perform_step scheme p a.now count first answers.now }
+pub fn perform_step(scheme: u8, r: &Replay<'_>) -> Option<StepResult>
+    ensures { progress result ≡ perform_step scheme r.now.point r.now.jacobian.now r.now.count r.now.first r.now.answers.now }
 {
-    let n = p.n;
-    let u = p.state;
-    let f0 = p.f0;
-    let au = matrix::mat_vec(a, u, n);
-    let nonlinear0 = subtract(f0, au, n);
-    let good = evaluation::all_finite(&au) & evaluation::all_finite(&nonlinear0);
-    if good {
-        return finished(
-            chosen(scheme, p, a, au, nonlinear0, answers, first, count),
-            nonlinear0,
-        );
+    let au = r.times(r.point.state);
+    let nonlinear = subtract(r.point.f0, au, r.point.n);
+    if !(evaluation::all_finite(&au) & evaluation::all_finite(&nonlinear)) {
+        return None;
     }
-    not_allowed()
+    let Ok(scheme) = Scheme::try_from(scheme) else {
+        return None;
+    };
+    match pass(scheme, r, au, nonlinear)? {
+        Reached::Question(x, time) => Some(StepResult::Question(x, time)),
+        Reached::End(x, e, tally) => Some(StepResult::Done(x, e, nonlinear, tally.work())),
+    }
 }

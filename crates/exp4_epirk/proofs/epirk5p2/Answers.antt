@@ -1,16 +1,7 @@
 -- `exp4_epirk::epirk5p2`: the second variant's numbers. Assumes nothing.
 use Rattle.methods.specs.Numbers.{numbers}
 use Rattle.methods.specs.Schemes.{epirk5p2}
-use Rattle.methods.proofs.Requires.{order_2}
 use Rattle.exp4_epirk.proofs.epirk5p2.Goals as goal
-
-pub epirk5p-requires : goal.epirk5p-requires
-unfolding numbers epirk5p2
-epirk5p-requires c =
-    record {
-      given = c.requires;
-      le_second_order = order_2;
-    }
 
 pub returns : goal.returns
 unfolding numbers epirk5p2

@@ -1,57 +1,36 @@
 -- `exp4_epirk::epirk5p_1`: its pass from the question about u1 on. Assumes nothing.
-use native.Mathlib.Omega.{arith}
-use mathlib.Core.Path.{refl}
+use Rattle.std.proofs.Common.{arith}
 use Rattle.methods.specs.Numbers.{numbers}
 use Rattle.exp4_epirk.specs.Stages.{epirk5p_1}
-use Rattle.methods.proofs.Lines.{go_on, at_once, checked_line, reported, open_line, answered_line, handed_on}
-use Rattle.methods.proofs.Requires.{answer_0}
+use Rattle.methods.proofs.Made.{taken_is, untaken}
+use Rattle.methods.proofs.Lines.{go_on, at_once, checked_line, reported, open_line, answered_line, handed_on, unasked_line, untried_line, stand_none}
 use Rattle.exp4_epirk.proofs.epirk5p_1.Goals as goal
 
-pub returns-then-count-eq0 : goal.returns-then-count-eq0
+pub returns-then-r-eq0 : goal.returns-then-r-eq0
 unfolding numbers epirk5p_1
-returns-then-count-eq0 c =
+returns-then-r-eq0 c =
     go_on _ _ _ _ _ _
-    (open_line _ _ _ _ _ c.may_ask-tally.ensures c.if-count-eq0.true c.asked.ensures)
+    (open_line _ _ _ _ c.if-r-eq0.true c.in_ok-question.ensures)
 
-pub remainder-r1-requires : goal.remainder-r1-requires
+pub returns-in_err-question : goal.returns-in_err-question
 unfolding numbers epirk5p_1
-remainder-r1-requires c =
-    let p = answer_0 c.requires.given in record {
-      sized = p.0;
-      answers_len = p.1.0;
-      j_lt_answers_kept = p.1.1;
-    }
+returns-in_err-question c =
+    go_on _ _ _ _ _ _
+    (unasked_line _ _ _ _ c.in_err-question.ensures (stand_none c.from_residual.ensures))
 
-pub phi_term-k2-requires : goal.phi_term-k2-requires
+pub returns-in_err-k2 : goal.returns-in_err-k2
 unfolding numbers epirk5p_1
-phi_term-k2-requires c =
-    record {
-      sized = c.requires.given.sized;
-      le_order = c.requires.le_second_order;
-    }
-
-pub add-requires : goal.add-requires
-unfolding numbers epirk5p_1
-add-requires c = c.requires.given.sized.small
-
-pub axpy-u2-requires : goal.axpy-u2-requires
-unfolding numbers epirk5p_1
-axpy-u2-requires c = c.requires.given.sized.small
-
-pub epirk5p_2-requires : goal.epirk5p_2-requires
-unfolding numbers epirk5p_1
-epirk5p_2-requires c =
-    record {
-      given = c.requires.given;
-      le_count = omega (arith, c.if-count-eq0.false);
-    }
+returns-in_err-k2 c =
+    go_on _ _ _ _ _ _
+    (answered_line _ _ _ _ _ _ _ c.in_ok-question.ensures c.if-r-eq0.false c.remainder-r1.ensures (omega arith)
+    (untried_line _ _ (untaken _ (rw c.powi-power.ensures at c.in_err-k2.ensures)) (stand_none c.from_residual-in_err-k2.ensures)))
 
 pub returns : goal.returns
 unfolding numbers epirk5p_1
 returns c =
     go_on _ _ _ _ _ _
-    (answered_line _ _ _ _ _ _ _ c.may_ask-tally.ensures c.if-count-eq0.false c.remainder-r1.ensures refl
-    (checked_line _ _ _ (rw c.powi-power.ensures at c.phi_term-k2.ensures)
+    (answered_line _ _ _ _ _ _ _ c.in_ok-question.ensures c.if-r-eq0.false c.remainder-r1.ensures (omega arith)
+    (checked_line _ _ _ (taken_is _ _ (rw c.powi-power.ensures at c.in_ok-k2.ensures))
     (reported _ c.joined-tally.ensures
     (at_once _ _ _ c.add.ensures
     (at_once _ _ _ (rw c.divisor.ensures at c.axpy-u2.ensures)

@@ -1,69 +1,57 @@
 -- `exp4_epirk::epirk5s3_2`: its pass from the question about u2 on. Assumes nothing.
-use native.Mathlib.Omega.{arith}
-use mathlib.Core.Path.{refl}
+use Rattle.std.proofs.Common.{arith, refl}
 use Rattle.methods.specs.Numbers.{numbers}
 use Rattle.exp4_epirk.specs.Stages.{epirk5s3_2}
-use Rattle.methods.proofs.Lines.{go_on, at_once, reported, open_line, first_part, next_part, part_now, summed, answered_line, handed_on}
-use Rattle.methods.proofs.Requires.{order_1, order_2, order_3, answer_0}
+use Rattle.methods.proofs.Made.{taken_is, untaken}
+use Rattle.methods.proofs.Lines.{go_on, at_once, reported, open_line, first_part, next_plain, next_part, part_now, summed, answered_line, handed_on, unasked_line, sum_fails, narrowed_fails, stand_none}
 use Rattle.exp4_epirk.proofs.epirk5s3_2.Goals as goal
 
-pub returns-then-count-eq0 : goal.returns-then-count-eq0
+pub returns-then-r-eq0 : goal.returns-then-r-eq0
 unfolding numbers epirk5s3_2
-returns-then-count-eq0 c =
+returns-then-r-eq0 c =
     go_on _ _ _ _ _ _
-    (open_line _ _ _ _ _ c.may_ask-tally.ensures c.if-count-eq0.true c.asked.ensures)
+    (open_line _ _ _ _ c.if-r-eq0.true c.in_ok-question.ensures)
 
-pub remainder-r2-requires : goal.remainder-r2-requires
-remainder-r2-requires c =
-    let p = answer_0 c.requires in record {
-      sized = p.0;
-      answers_len = p.1.0;
-      j_lt_answers_kept = p.1.1;
-    }
+pub returns-in_err-question : goal.returns-in_err-question
+unfolding numbers epirk5s3_2
+returns-in_err-question c =
+    go_on _ _ _ _ _ _
+    (unasked_line _ _ _ _ c.in_err-question.ensures (stand_none c.from_residual.ensures))
 
-pub phi_term-k3-requires : goal.phi_term-k3-requires
-phi_term-k3-requires c =
-    record {
-      sized = c.requires.sized;
-      le_order = order_1;
-    }
+pub returns-in_err-k3 : goal.returns-in_err-k3
+unfolding numbers epirk5s3_2
+returns-in_err-k3 c =
+    go_on _ _ _ _ _ _
+    (answered_line _ _ _ _ _ _ _ c.in_ok-question.ensures c.if-r-eq0.false c.remainder-r2.ensures (omega arith)
+    (first_part _ _ _ refl (sum_fails _ _ (untaken _ c.in_err-k3.ensures) (stand_none c.from_residual-in_err-k3.ensures))))
 
-pub add_term-k3-requires : goal.add_term-k3-requires
-add_term-k3-requires c =
-    record {
-      sized = c.requires.sized;
-      le_order = order_2;
-    }
+pub returns-in_err-k3-2 : goal.returns-in_err-k3-2
+unfolding numbers epirk5s3_2
+returns-in_err-k3-2 c =
+    go_on _ _ _ _ _ _
+    (answered_line _ _ _ _ _ _ _ c.in_ok-question.ensures c.if-r-eq0.false c.remainder-r2.ensures (omega arith)
+    (first_part _ _ _ (taken_is _ _ c.in_ok-k3.ensures)
+    (next_plain _ _ _ _ refl (sum_fails _ _ (narrowed_fails _ (untaken _ (rw c.powi2.ensures at c.in_err-k3-2.ensures))) (stand_none c.from_residual-in_err-k3-2.ensures)))))
 
-pub combine2-b3-requires : goal.combine2-b3-requires
-combine2-b3-requires c = c.requires.sized.small
-
-pub add_term-k3-requires-2 : goal.add_term-k3-requires-2
-add_term-k3-requires-2 c =
-    record {
-      sized = c.requires.sized;
-      le_order = order_3;
-    }
-
-pub add-u3-requires : goal.add-u3-requires
-add-u3-requires c = c.requires.sized.small
-
-pub epirk5s3_3-requires : goal.epirk5s3_3-requires
-epirk5s3_3-requires c =
-    record {
-      given = c.requires;
-      le_count = omega (arith, c.if-count-eq0.false);
-    }
+pub returns-in_err-k3-3 : goal.returns-in_err-k3-3
+unfolding numbers epirk5s3_2
+returns-in_err-k3-3 c =
+    go_on _ _ _ _ _ _
+    (answered_line _ _ _ _ _ _ _ c.in_ok-question.ensures c.if-r-eq0.false c.remainder-r2.ensures (omega arith)
+    (first_part _ _ _ (taken_is _ _ c.in_ok-k3.ensures)
+    (next_part _ _ _ _ (taken_is _ _ (rw c.powi2.ensures at c.in_ok-k3-2.ensures))
+    (part_now _ _ _ c.combine2-b3.ensures
+    (next_plain _ _ _ _ refl (sum_fails _ _ (narrowed_fails _ (untaken _ (rw c.powi3.ensures at c.in_err-k3-3.ensures))) (stand_none c.from_residual-in_err-k3-3.ensures)))))))
 
 pub returns : goal.returns
 unfolding numbers epirk5s3_2
 returns c =
     go_on _ _ _ _ _ _
-    (answered_line _ _ _ _ _ _ _ c.may_ask-tally.ensures c.if-count-eq0.false c.remainder-r2.ensures refl
-    (first_part _ _ _ c.phi_term-k3.ensures
-    (next_part _ _ _ _ (rw c.powi2.ensures at c.add_term-k3.ensures)
+    (answered_line _ _ _ _ _ _ _ c.in_ok-question.ensures c.if-r-eq0.false c.remainder-r2.ensures (omega arith)
+    (first_part _ _ _ (taken_is _ _ c.in_ok-k3.ensures)
+    (next_part _ _ _ _ (taken_is _ _ (rw c.powi2.ensures at c.in_ok-k3-2.ensures))
     (part_now _ _ _ c.combine2-b3.ensures
-    (next_part _ _ _ _ (rw c.powi3.ensures at c.add_term-k3-2.ensures)
+    (next_part _ _ _ _ (taken_is _ _ (rw c.powi3.ensures at c.in_ok-k3-3.ensures))
     (summed _ _
     (reported _ c.joined-tally.ensures
     (at_once _ _ _ c.add-u3.ensures

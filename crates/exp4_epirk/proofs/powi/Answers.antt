@@ -7,6 +7,6 @@ pub returns-then-k-eq2 : goal.returns-then-k-eq2
 unfolding powi
 returns-then-k-eq2 c = rw c.if-k-eq2.true c.powi2.ensures
 
-pub returns : goal.returns
+pub returns-else-k-eq2 : goal.returns-else-k-eq2
 unfolding powi
-returns c = rw (ne_eqb _ 2 c.if-k-eq2.false)
+returns-else-k-eq2 c = rw (ne_eqb _ 2 c.if-k-eq2.false)

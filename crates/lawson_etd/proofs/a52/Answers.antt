@@ -5,18 +5,6 @@ use Rattle.lawson_etd.specs.Stages.{a52_of}
 use Rattle.methods.proofs.Tallies.{more_onto}
 use Rattle.lawson_etd.proofs.a52.Goals as goal
 
-pub more-k-requires : goal.more-k-requires
-more-k-requires c = c.requires
-
-pub more-k-requires-2 : goal.more-k-requires-2
-more-k-requires-2 c = c.requires
-
-pub more-k-requires-3 : goal.more-k-requires-3
-more-k-requires-3 c = c.requires
-
-pub more-requires : goal.more-requires
-more-requires c = c.requires
-
 pub returns : goal.returns
 unfolding numbers combine_all more_all a52_of
 returns c =

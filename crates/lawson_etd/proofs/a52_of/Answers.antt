@@ -1,42 +1,28 @@
 -- `lawson_etd::a52_of`: its four phi terms, and what is made of them. Assumes nothing.
+use Rattle.std.proofs.Common.{◌∙◌}
 use Rattle.methods.specs.Numbers.{numbers}
-use Rattle.lawson_etd.proofs.HochOst.{a52_made}
-use Rattle.methods.proofs.Requires.{order_2, order_3}
+use Rattle.lawson_etd.proofs.HochOst.{a52_made, a52_p2h, a52_p3, a52_p2, a52_p3h, fails_narrowed}
+use Rattle.methods.proofs.Made.{taken_is, untaken, is_made, none_made}
 use Rattle.lawson_etd.proofs.a52_of.Goals as goal
 
-pub phi_term-p2h-requires : goal.phi_term-p2h-requires
-phi_term-p2h-requires c =
-    record {
-      sized = c.requires;
-      le_order = order_2;
-    }
+pub returns-in_err-p2h : goal.returns-in_err-p2h
+unfolding numbers
+returns-in_err-p2h c = c.from_residual.ensures ∙ none_made _ (fails_narrowed _ (a52_p2h _ _ _ _ (untaken _ c.in_err-p2h.ensures)))
 
-pub phi_term-p3-requires : goal.phi_term-p3-requires
-phi_term-p3-requires c =
-    record {
-      sized = c.requires;
-      le_order = order_3;
-    }
+pub returns-in_err-p3 : goal.returns-in_err-p3
+unfolding numbers
+returns-in_err-p3 c = c.from_residual-in_err-p3.ensures ∙ none_made _ (fails_narrowed _ (a52_p3 _ _ _ _ (untaken _ c.in_err-p3.ensures)))
 
-pub phi_term-p2-requires : goal.phi_term-p2-requires
-phi_term-p2-requires c =
-    record {
-      sized = c.requires;
-      le_order = order_2;
-    }
+pub returns-in_err-p2 : goal.returns-in_err-p2
+unfolding numbers
+returns-in_err-p2 c = c.from_residual-in_err-p2.ensures ∙ none_made _ (fails_narrowed _ (a52_p2 _ _ _ _ (untaken _ c.in_err-p2.ensures)))
 
-pub phi_term-p3h-requires : goal.phi_term-p3h-requires
-phi_term-p3h-requires c =
-    record {
-      sized = c.requires;
-      le_order = order_3;
-    }
-
-pub a52-requires : goal.a52-requires
-a52-requires c = c.requires.small
+pub returns-in_err-p3h : goal.returns-in_err-p3h
+unfolding numbers
+returns-in_err-p3h c = c.from_residual-in_err-p3h.ensures ∙ none_made _ (fails_narrowed _ (a52_p3h _ _ _ _ (untaken _ c.in_err-p3h.ensures)))
 
 pub returns : goal.returns
 unfolding numbers
 returns c =
-    a52_made _ _ _ _ _ c.phi_term-p2h.ensures _ _ _ _
-    c.phi_term-p3.ensures c.phi_term-p2.ensures c.phi_term-p3h.ensures c.a52.ensures
+    is_made _ _ (a52_made _ _ _ _ _ (taken_is _ _ c.in_ok-p2h.ensures) _ _ _ _
+    (taken_is _ _ c.in_ok-p3.ensures) (taken_is _ _ c.in_ok-p2.ensures) (taken_is _ _ c.in_ok-p3h.ensures) c.a52.ensures)

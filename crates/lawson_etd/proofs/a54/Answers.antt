@@ -5,12 +5,6 @@ use Rattle.lawson_etd.specs.Stages.{a54_of}
 use Rattle.methods.proofs.Tallies.{more_onto}
 use Rattle.lawson_etd.proofs.a54.Goals as goal
 
-pub more-k-requires : goal.more-k-requires
-more-k-requires c = c.requires
-
-pub more-requires : goal.more-requires
-more-requires c = c.requires
-
 pub returns : goal.returns
 unfolding numbers combine_all more_all a54_of
 returns c = more_onto _ _ _ _ _ _ (rw c.nothing.ensures at c.more-k.ensures) c.more.ensures

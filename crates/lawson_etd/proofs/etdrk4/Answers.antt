@@ -2,27 +2,20 @@
 use Rattle.methods.specs.Numbers.{numbers}
 use Rattle.methods.specs.Schemes.{etdrk4}
 use Rattle.lawson_etd.specs.Stages.{etdrk4_2, etdrk4_3, etdrk4_4}
-use Rattle.methods.proofs.Lines.{begin, over_line, alone, handed_on}
-use Rattle.methods.proofs.Requires.{order_1}
+use Rattle.methods.proofs.Made.{taken_is, untaken}
+use Rattle.methods.proofs.Lines.{begin, over_line, alone, handed_on, untried_line, over_fails, stand_none}
 use Rattle.lawson_etd.proofs.etdrk4.Goals as goal
 
-pub phi_term-requires : goal.phi_term-requires
-phi_term-requires c =
-    record {
-      sized = c.requires.sized;
-      le_order = order_1;
-    }
-
-pub added-s2-requires : goal.added-s2-requires
-added-s2-requires c = c.requires.sized.small
-
-pub etdrk4_2-requires : goal.etdrk4_2-requires
-etdrk4_2-requires c = c.requires
+pub returns-in_err-phi_term : goal.returns-in_err-phi_term
+unfolding numbers etdrk4 etdrk4_2 etdrk4_3 etdrk4_4
+returns-in_err-phi_term c =
+    begin _ _ _ _ _
+    (untried_line _ _ (over_fails _ _ (untaken _ c.in_err-phi_term.ensures)) (stand_none c.from_residual.ensures))
 
 pub returns : goal.returns
 unfolding numbers etdrk4 etdrk4_2 etdrk4_3 etdrk4_4
 returns c =
     begin _ _ _ _ _
-    (over_line _ _ _ _ _ c.phi_term.ensures c.added-s2.ensures
+    (over_line _ _ _ _ _ (taken_is _ _ c.in_ok-phi_term.ensures) c.added-s2.ensures
     (alone _ _
     (handed_on c.etdrk4_2.ensures)))

@@ -1,110 +1,137 @@
 -- `lawson_etd::etdrk4_4`: its pass from the question about u4 on. Assumes nothing.
-use native.Mathlib.Omega.{arith}
-use mathlib.Core.Path.{refl}
+use Rattle.std.proofs.Common.{arith, refl}
 use Rattle.matrix.specs.Vector.{zeros}
 use Rattle.methods.specs.Numbers.{numbers}
 use Rattle.lawson_etd.specs.Stages.{etdrk4_4}
-use Rattle.methods.proofs.Lines.{go_on, reported, open_line, last_line, first_part, next_part, summed, answered_line}
-use Rattle.methods.proofs.Requires.{order_1, order_2, order_3, answer_2}
+use Rattle.methods.proofs.Made.{taken_is, untaken}
+use Rattle.methods.proofs.Lines.{go_on, reported, open_line, last_line, first_part, next_plain, next_part, summed, answered_line, unasked_line, sum_fails, narrowed_fails, stand_none}
 use Rattle.lawson_etd.proofs.etdrk4_4.Goals as goal
 
-pub returns-then-count-eq2 : goal.returns-then-count-eq2
+pub returns-then-r-eq2 : goal.returns-then-r-eq2
 unfolding zeros numbers etdrk4_4
-returns-then-count-eq2 c =
+returns-then-r-eq2 c =
     go_on _ _ _ _ _ _
-    (open_line _ _ _ _ _ c.may_ask-tally.ensures (omega (arith, c.if-count-eq2.true)) c.asked.ensures)
+    (open_line _ _ _ _ (omega (arith, c.if-r-eq2.true)) c.in_ok-question.ensures)
 
-pub overflow_add-first : goal.overflow_add-first
-overflow_add-first c = omega (arith, c.requires.given.early)
+pub returns-in_err-question : goal.returns-in_err-question
+unfolding zeros numbers etdrk4_4
+returns-in_err-question c =
+    go_on _ _ _ _ _ _
+    (unasked_line _ _ _ _ c.in_err-question.ensures (stand_none c.from_residual.ensures))
 
-pub shifted_stage-f4-requires : goal.shifted_stage-f4-requires
-shifted_stage-f4-requires c =
-    let p = answer_2 c.requires.given in record {
-      sized = p.0;
-      answers_len = p.1.0;
-      j_lt_answers_kept = p.1.1;
-    }
+pub returns-in_err-k : goal.returns-in_err-k
+unfolding zeros numbers etdrk4_4
+returns-in_err-k c =
+    go_on _ _ _ _ _ _
+    (answered_line _ _ _ _ _ _ _ c.in_ok-question.ensures (omega (arith, c.if-r-eq2.false, c.requires)) c.shifted_stage-f4.ensures (omega arith)
+    (first_part _ _ _ refl (sum_fails _ _ (untaken _ c.in_err-k.ensures) (stand_none c.from_residual-in_err-k.ensures))))
 
-pub phi_term-k-requires : goal.phi_term-k-requires
-phi_term-k-requires c =
-    record {
-      sized = c.requires.given.sized;
-      le_order = order_1;
-    }
+pub returns-in_err-k-2 : goal.returns-in_err-k-2
+unfolding zeros numbers etdrk4_4
+returns-in_err-k-2 c =
+    go_on _ _ _ _ _ _
+    (answered_line _ _ _ _ _ _ _ c.in_ok-question.ensures (omega (arith, c.if-r-eq2.false, c.requires)) c.shifted_stage-f4.ensures (omega arith)
+    (first_part _ _ _ (taken_is _ _ c.in_ok-k.ensures)
+    (next_plain _ _ _ _ refl (sum_fails _ _ (narrowed_fails _ (untaken _ c.in_err-k-2.ensures)) (stand_none c.from_residual-in_err-k-2.ensures)))))
 
-pub add_term-k-requires : goal.add_term-k-requires
-add_term-k-requires c =
-    record {
-      sized = c.requires.given.sized;
-      le_order = order_2;
-    }
+pub returns-in_err-k-3 : goal.returns-in_err-k-3
+unfolding zeros numbers etdrk4_4
+returns-in_err-k-3 c =
+    go_on _ _ _ _ _ _
+    (answered_line _ _ _ _ _ _ _ c.in_ok-question.ensures (omega (arith, c.if-r-eq2.false, c.requires)) c.shifted_stage-f4.ensures (omega arith)
+    (first_part _ _ _ (taken_is _ _ c.in_ok-k.ensures)
+    (next_part _ _ _ _ (taken_is _ _ c.in_ok-k-2.ensures)
+    (next_plain _ _ _ _ refl (sum_fails _ _ (narrowed_fails _ (untaken _ c.in_err-k-3.ensures)) (stand_none c.from_residual-in_err-k-3.ensures))))))
 
-pub add_term-k-requires-2 : goal.add_term-k-requires-2
-add_term-k-requires-2 c =
-    record {
-      sized = c.requires.given.sized;
-      le_order = order_3;
-    }
+pub returns-in_err-k-4 : goal.returns-in_err-k-4
+unfolding zeros numbers etdrk4_4
+returns-in_err-k-4 c =
+    go_on _ _ _ _ _ _
+    (answered_line _ _ _ _ _ _ _ c.in_ok-question.ensures (omega (arith, c.if-r-eq2.false, c.requires)) c.shifted_stage-f4.ensures (omega arith)
+    (first_part _ _ _ (taken_is _ _ c.in_ok-k.ensures)
+    (next_part _ _ _ _ (taken_is _ _ c.in_ok-k-2.ensures)
+    (next_part _ _ _ _ (taken_is _ _ c.in_ok-k-3.ensures)
+    (next_plain _ _ _ _ refl (sum_fails _ _ (narrowed_fails _ (untaken _ c.in_err-k-4.ensures)) (stand_none c.from_residual-in_err-k-4.ensures)))))))
 
-pub add_term-k-requires-3 : goal.add_term-k-requires-3
-add_term-k-requires-3 c =
-    record {
-      sized = c.requires.given.sized;
-      le_order = order_2;
-    }
+pub returns-in_err-k-5 : goal.returns-in_err-k-5
+unfolding zeros numbers etdrk4_4
+returns-in_err-k-5 c =
+    go_on _ _ _ _ _ _
+    (answered_line _ _ _ _ _ _ _ c.in_ok-question.ensures (omega (arith, c.if-r-eq2.false, c.requires)) c.shifted_stage-f4.ensures (omega arith)
+    (first_part _ _ _ (taken_is _ _ c.in_ok-k.ensures)
+    (next_part _ _ _ _ (taken_is _ _ c.in_ok-k-2.ensures)
+    (next_part _ _ _ _ (taken_is _ _ c.in_ok-k-3.ensures)
+    (next_part _ _ _ _ (taken_is _ _ c.in_ok-k-4.ensures)
+    (next_plain _ _ _ _ refl (sum_fails _ _ (narrowed_fails _ (untaken _ c.in_err-k-5.ensures)) (stand_none c.from_residual-in_err-k-5.ensures))))))))
 
-pub add_term-k-requires-4 : goal.add_term-k-requires-4
-add_term-k-requires-4 c =
-    record {
-      sized = c.requires.given.sized;
-      le_order = order_3;
-    }
+pub returns-in_err-k-6 : goal.returns-in_err-k-6
+unfolding zeros numbers etdrk4_4
+returns-in_err-k-6 c =
+    go_on _ _ _ _ _ _
+    (answered_line _ _ _ _ _ _ _ c.in_ok-question.ensures (omega (arith, c.if-r-eq2.false, c.requires)) c.shifted_stage-f4.ensures (omega arith)
+    (first_part _ _ _ (taken_is _ _ c.in_ok-k.ensures)
+    (next_part _ _ _ _ (taken_is _ _ c.in_ok-k-2.ensures)
+    (next_part _ _ _ _ (taken_is _ _ c.in_ok-k-3.ensures)
+    (next_part _ _ _ _ (taken_is _ _ c.in_ok-k-4.ensures)
+    (next_part _ _ _ _ (taken_is _ _ c.in_ok-k-5.ensures)
+    (next_plain _ _ _ _ refl (sum_fails _ _ (narrowed_fails _ (untaken _ c.in_err-k-6.ensures)) (stand_none c.from_residual-in_err-k-6.ensures)))))))))
 
-pub add_term-k-requires-5 : goal.add_term-k-requires-5
-add_term-k-requires-5 c =
-    record {
-      sized = c.requires.given.sized;
-      le_order = order_2;
-    }
+pub returns-in_err-k-7 : goal.returns-in_err-k-7
+unfolding zeros numbers etdrk4_4
+returns-in_err-k-7 c =
+    go_on _ _ _ _ _ _
+    (answered_line _ _ _ _ _ _ _ c.in_ok-question.ensures (omega (arith, c.if-r-eq2.false, c.requires)) c.shifted_stage-f4.ensures (omega arith)
+    (first_part _ _ _ (taken_is _ _ c.in_ok-k.ensures)
+    (next_part _ _ _ _ (taken_is _ _ c.in_ok-k-2.ensures)
+    (next_part _ _ _ _ (taken_is _ _ c.in_ok-k-3.ensures)
+    (next_part _ _ _ _ (taken_is _ _ c.in_ok-k-4.ensures)
+    (next_part _ _ _ _ (taken_is _ _ c.in_ok-k-5.ensures)
+    (next_part _ _ _ _ (taken_is _ _ c.in_ok-k-6.ensures)
+    (next_plain _ _ _ _ refl (sum_fails _ _ (narrowed_fails _ (untaken _ c.in_err-k-7.ensures)) (stand_none c.from_residual-in_err-k-7.ensures))))))))))
 
-pub add_term-k-requires-6 : goal.add_term-k-requires-6
-add_term-k-requires-6 c =
-    record {
-      sized = c.requires.given.sized;
-      le_order = order_3;
-    }
+pub returns-in_err-k-8 : goal.returns-in_err-k-8
+unfolding zeros numbers etdrk4_4
+returns-in_err-k-8 c =
+    go_on _ _ _ _ _ _
+    (answered_line _ _ _ _ _ _ _ c.in_ok-question.ensures (omega (arith, c.if-r-eq2.false, c.requires)) c.shifted_stage-f4.ensures (omega arith)
+    (first_part _ _ _ (taken_is _ _ c.in_ok-k.ensures)
+    (next_part _ _ _ _ (taken_is _ _ c.in_ok-k-2.ensures)
+    (next_part _ _ _ _ (taken_is _ _ c.in_ok-k-3.ensures)
+    (next_part _ _ _ _ (taken_is _ _ c.in_ok-k-4.ensures)
+    (next_part _ _ _ _ (taken_is _ _ c.in_ok-k-5.ensures)
+    (next_part _ _ _ _ (taken_is _ _ c.in_ok-k-6.ensures)
+    (next_part _ _ _ _ (taken_is _ _ c.in_ok-k-7.ensures)
+    (next_plain _ _ _ _ refl (sum_fails _ _ (narrowed_fails _ (untaken _ c.in_err-k-8.ensures)) (stand_none c.from_residual-in_err-k-8.ensures)))))))))))
 
-pub add_term-k-requires-7 : goal.add_term-k-requires-7
-add_term-k-requires-7 c =
-    record {
-      sized = c.requires.given.sized;
-      le_order = order_2;
-    }
-
-pub add_term-k-requires-8 : goal.add_term-k-requires-8
-add_term-k-requires-8 c =
-    record {
-      sized = c.requires.given.sized;
-      le_order = order_3;
-    }
-
-pub add-requires : goal.add-requires
-add-requires c = c.requires.given.sized.small
+pub returns-in_err-k-9 : goal.returns-in_err-k-9
+unfolding zeros numbers etdrk4_4
+returns-in_err-k-9 c =
+    go_on _ _ _ _ _ _
+    (answered_line _ _ _ _ _ _ _ c.in_ok-question.ensures (omega (arith, c.if-r-eq2.false, c.requires)) c.shifted_stage-f4.ensures (omega arith)
+    (first_part _ _ _ (taken_is _ _ c.in_ok-k.ensures)
+    (next_part _ _ _ _ (taken_is _ _ c.in_ok-k-2.ensures)
+    (next_part _ _ _ _ (taken_is _ _ c.in_ok-k-3.ensures)
+    (next_part _ _ _ _ (taken_is _ _ c.in_ok-k-4.ensures)
+    (next_part _ _ _ _ (taken_is _ _ c.in_ok-k-5.ensures)
+    (next_part _ _ _ _ (taken_is _ _ c.in_ok-k-6.ensures)
+    (next_part _ _ _ _ (taken_is _ _ c.in_ok-k-7.ensures)
+    (next_part _ _ _ _ (taken_is _ _ c.in_ok-k-8.ensures)
+    (next_plain _ _ _ _ refl (sum_fails _ _ (narrowed_fails _ (untaken _ c.in_err-k-9.ensures)) (stand_none c.from_residual-in_err-k-9.ensures))))))))))))
 
 pub returns : goal.returns
 unfolding zeros numbers etdrk4_4
 returns c =
     go_on _ _ _ _ _ _
-    (answered_line _ _ _ _ _ _ _ c.may_ask-tally.ensures (omega (arith, c.if-count-eq2.false, c.requires)) c.shifted_stage-f4.ensures refl
-    (first_part _ _ _ c.phi_term-k.ensures
-    (next_part _ _ _ _ c.add_term-k.ensures
-    (next_part _ _ _ _ c.add_term-k-2.ensures
-    (next_part _ _ _ _ c.add_term-k-3.ensures
-    (next_part _ _ _ _ c.add_term-k-4.ensures
-    (next_part _ _ _ _ c.add_term-k-5.ensures
-    (next_part _ _ _ _ c.add_term-k-6.ensures
-    (next_part _ _ _ _ c.add_term-k-7.ensures
-    (next_part _ _ _ _ c.add_term-k-8.ensures
+    (answered_line _ _ _ _ _ _ _ c.in_ok-question.ensures (omega (arith, c.if-r-eq2.false, c.requires)) c.shifted_stage-f4.ensures (omega arith)
+    (first_part _ _ _ (taken_is _ _ c.in_ok-k.ensures)
+    (next_part _ _ _ _ (taken_is _ _ c.in_ok-k-2.ensures)
+    (next_part _ _ _ _ (taken_is _ _ c.in_ok-k-3.ensures)
+    (next_part _ _ _ _ (taken_is _ _ c.in_ok-k-4.ensures)
+    (next_part _ _ _ _ (taken_is _ _ c.in_ok-k-5.ensures)
+    (next_part _ _ _ _ (taken_is _ _ c.in_ok-k-6.ensures)
+    (next_part _ _ _ _ (taken_is _ _ c.in_ok-k-7.ensures)
+    (next_part _ _ _ _ (taken_is _ _ c.in_ok-k-8.ensures)
+    (next_part _ _ _ _ (taken_is _ _ c.in_ok-k-9.ensures)
     (summed _ _
     (reported _ c.joined.ensures
     (last_line _ _ _ c.add.ensures c.ended.ensures)))))))))))))

@@ -1,4 +1,4 @@
--- `methods::added`: one call. Assumes nothing.
+-- `methods::added` meets its contract. Assumes nothing.
 use Rattle.methods.specs.Phi.{over}
 use Rattle.methods.proofs.added.Goals as goal
 

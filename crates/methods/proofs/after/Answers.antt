@@ -1,4 +1,4 @@
--- `methods::after`: one call. Assumes nothing.
+-- `methods::after` meets its contract. Assumes nothing.
 use Rattle.methods.specs.Phi.{over}
 use Rattle.methods.proofs.after.Goals as goal
 

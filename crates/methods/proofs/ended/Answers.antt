@@ -1,7 +1,11 @@
 -- `methods::ended` meets its contract. Assumes nothing.
-use Rattle.methods.specs.Parts.{may_end, stand, stand_kind}
+use Rattle.methods.specs.Parts.{stand}
 use Rattle.methods.proofs.ended.Goals as goal
 
+pub returns-then-all_finite : goal.returns-then-all_finite
+unfolding stand
+returns-then-all_finite c = rw (← c.all_finite.ensures, ← c.all_finite-2.ensures, c.if-all_finite.true)
+
 pub returns : goal.returns
-unfolding may_end stand stand_kind
-returns c = rw (c.with_test-tally.ensures, c.all_finite.ensures, c.all_finite-2.ensures)
+unfolding stand
+returns c = rw (← c.all_finite.ensures, ← c.all_finite-2.ensures, c.if-all_finite.false)

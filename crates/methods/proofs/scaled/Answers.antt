@@ -1,4 +1,4 @@
--- `methods::scaled`: one call. Assumes nothing.
+-- `methods::scaled` meets its contract. Assumes nothing.
 use Rattle.methods.specs.Phi.{over}
 use Rattle.methods.proofs.scaled.Goals as goal
 

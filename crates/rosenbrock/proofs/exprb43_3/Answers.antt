@@ -1,84 +1,46 @@
 -- `rosenbrock::exprb43_3`: its pass from the question about u3 on. Assumes nothing.
-use native.Mathlib.Omega.{arith}
-use mathlib.Core.Path.{refl}
+use Rattle.std.proofs.Common.{arith}
 use Rattle.methods.specs.Numbers.{numbers}
 use Rattle.rosenbrock.specs.Stages.{exprb43_3}
-use Rattle.methods.proofs.Lines.{go_on, at_once, checked_line, reported, open_line, last_line, answered_line}
-use Rattle.methods.proofs.Requires.{order_3, order_4, answer_1}
+use Rattle.methods.proofs.Made.{taken_is, untaken}
+use Rattle.methods.proofs.Lines.{go_on, at_once, checked_line, reported, open_line, last_line, answered_line, unasked_line, untried_line, stand_none}
 use Rattle.rosenbrock.proofs.exprb43_3.Goals as goal
 
-pub returns-then-count-eq1 : goal.returns-then-count-eq1
+pub returns-then-r-eq1 : goal.returns-then-r-eq1
 unfolding numbers exprb43_3
-returns-then-count-eq1 c =
+returns-then-r-eq1 c =
     go_on _ _ _ _ _ _
-    (open_line _ _ _ _ _ c.may_ask-tally.ensures (omega (arith, c.if-count-eq1.true)) c.asked.ensures)
+    (open_line _ _ _ _ (omega (arith, c.if-r-eq1.true)) c.in_ok-question.ensures)
 
-pub overflow_add-first : goal.overflow_add-first
-overflow_add-first c = omega (arith, c.requires.given.early)
+pub returns-in_err-question : goal.returns-in_err-question
+unfolding numbers exprb43_3
+returns-in_err-question c =
+    go_on _ _ _ _ _ _
+    (unasked_line _ _ _ _ c.in_err-question.ensures (stand_none c.from_residual.ensures))
 
-pub shifted_stage-f3-requires : goal.shifted_stage-f3-requires
-shifted_stage-f3-requires c =
-    let p = answer_1 c.requires.given in record {
-      sized = p.0;
-      answers_len = p.1.0;
-      j_lt_answers_kept = p.1.1;
-    }
+pub returns-in_err-k33 : goal.returns-in_err-k33
+unfolding numbers exprb43_3
+returns-in_err-k33 c =
+    go_on _ _ _ _ _ _
+    (answered_line _ _ _ _ _ _ _ c.in_ok-question.ensures (omega (arith, c.if-r-eq1.false, c.requires)) c.shifted_stage-f3.ensures (omega arith)
+    (untried_line _ _ (untaken _ c.in_err-k33.ensures) (stand_none c.from_residual-in_err-k33.ensures)))
 
-pub phi_action-k33-requires : goal.phi_action-k33-requires
-phi_action-k33-requires c =
-    record {
-      sized = c.requires.given.sized;
-      le_order = order_3;
-    }
-
-pub phi_action-k34-requires : goal.phi_action-k34-requires
-phi_action-k34-requires c =
-    record {
-      sized = c.requires.given.sized;
-      le_order = order_4;
-    }
-
-pub scale-increment-requires : goal.scale-increment-requires
-scale-increment-requires c = c.requires.given.sized.small
-
-pub axpy-increment-requires : goal.axpy-increment-requires
-axpy-increment-requires c = c.requires.given.sized.small
-
-pub axpy-increment-requires-2 : goal.axpy-increment-requires-2
-axpy-increment-requires-2 c = c.requires.given.sized.small
-
-pub axpy-increment-requires-3 : goal.axpy-increment-requires-3
-axpy-increment-requires-3 c = c.requires.given.sized.small
-
-pub axpy-increment-requires-4 : goal.axpy-increment-requires-4
-axpy-increment-requires-4 c = c.requires.given.sized.small
-
-pub axpy-increment-requires-5 : goal.axpy-increment-requires-5
-axpy-increment-requires-5 c = c.requires.given.sized.small
-
-pub axpy-increment-requires-6 : goal.axpy-increment-requires-6
-axpy-increment-requires-6 c = c.requires.given.sized.small
-
-pub scale-error-requires : goal.scale-error-requires
-scale-error-requires c = c.requires.given.sized.small
-
-pub axpy-error-requires : goal.axpy-error-requires
-axpy-error-requires c = c.requires.given.sized.small
-
-pub axpy-error-requires-2 : goal.axpy-error-requires-2
-axpy-error-requires-2 c = c.requires.given.sized.small
-
-pub add-requires : goal.add-requires
-add-requires c = c.requires.given.sized.small
+pub returns-in_err-k34 : goal.returns-in_err-k34
+unfolding numbers exprb43_3
+returns-in_err-k34 c =
+    go_on _ _ _ _ _ _
+    (answered_line _ _ _ _ _ _ _ c.in_ok-question.ensures (omega (arith, c.if-r-eq1.false, c.requires)) c.shifted_stage-f3.ensures (omega arith)
+    (checked_line _ _ _ (taken_is _ _ c.in_ok-k33.ensures)
+    (untried_line _ _ (untaken _ c.in_err-k34.ensures) (stand_none c.from_residual-in_err-k34.ensures))))
 
 pub returns : goal.returns
 unfolding numbers exprb43_3
 returns c =
     go_on _ _ _ _ _ _
-    (answered_line _ _ _ _ _ _ _ c.may_ask-tally.ensures (omega (arith, c.if-count-eq1.false, c.requires)) c.shifted_stage-f3.ensures refl
-    (checked_line _ _ _ c.phi_action-k33.ensures
+    (answered_line _ _ _ _ _ _ _ c.in_ok-question.ensures (omega (arith, c.if-r-eq1.false, c.requires)) c.shifted_stage-f3.ensures (omega arith)
+    (checked_line _ _ _ (taken_is _ _ c.in_ok-k33.ensures)
     (reported _ c.joined.ensures
-    (checked_line _ _ _ c.phi_action-k34.ensures
+    (checked_line _ _ _ (taken_is _ _ c.in_ok-k34.ensures)
     (reported _ c.joined-tally.ensures
     (at_once _ _ _ c.scale-increment.ensures
     (at_once _ _ _ c.axpy-increment.ensures

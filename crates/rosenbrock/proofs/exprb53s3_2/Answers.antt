@@ -1,61 +1,48 @@
 -- `rosenbrock::exprb53s3_2`: its pass from the question about u2 on. Assumes nothing.
-use native.Mathlib.Omega.{arith}
-use mathlib.Core.Path.{refl}
+use Rattle.std.proofs.Common.{arith, refl}
 use Rattle.methods.specs.Numbers.{numbers}
 use Rattle.rosenbrock.specs.Stages.{exprb53s3_2}
-use Rattle.methods.proofs.Lines.{go_on, at_once, reported, open_line, first-over, next_part, summed, answered_line, handed_on}
-use Rattle.methods.proofs.Requires.{order_3, answer_0}
+use Rattle.methods.proofs.Made.{taken_is, untaken}
+use Rattle.methods.proofs.Lines.{go_on, at_once, reported, open_line, first_part, first-over, next_plain, next_part, summed, answered_line, handed_on, unasked_line, over_fails, sum_fails, narrowed_fails, stand_none}
 use Rattle.rosenbrock.proofs.exprb53s3_2.Goals as goal
 
-pub returns-then-count-eq0 : goal.returns-then-count-eq0
+pub returns-then-r-eq0 : goal.returns-then-r-eq0
 unfolding numbers exprb53s3_2
-returns-then-count-eq0 c =
+returns-then-r-eq0 c =
     go_on _ _ _ _ _ _
-    (open_line _ _ _ _ _ c.may_ask-tally.ensures c.if-count-eq0.true c.asked.ensures)
+    (open_line _ _ _ _ c.if-r-eq0.true c.in_ok-question.ensures)
 
-pub remainder-r2-requires : goal.remainder-r2-requires
-remainder-r2-requires c =
-    let p = answer_0 c.requires in record {
-      sized = p.0;
-      answers_len = p.1.0;
-      j_lt_answers_kept = p.1.1;
-    }
+pub returns-in_err-question : goal.returns-in_err-question
+unfolding numbers exprb53s3_2
+returns-in_err-question c =
+    go_on _ _ _ _ _ _
+    (unasked_line _ _ _ _ c.in_err-question.ensures (stand_none c.from_residual.ensures))
 
-pub phi_term-k3-requires : goal.phi_term-k3-requires
-phi_term-k3-requires c =
-    record {
-      sized = c.requires.sized;
-      le_order = order_3;
-    }
+pub returns-in_err-k3 : goal.returns-in_err-k3
+unfolding numbers exprb53s3_2
+returns-in_err-k3 c =
+    go_on _ _ _ _ _ _
+    (answered_line _ _ _ _ _ _ _ c.in_ok-question.ensures c.if-r-eq0.false c.remainder-r2.ensures (omega arith)
+    (at_once _ _ _ c.add-u3.ensures
+    (first_part _ _ _ refl (sum_fails _ _ (over_fails _ _ (untaken _ (rw c.powi3.ensures at c.in_err-k3.ensures))) (stand_none c.from_residual-in_err-k3.ensures)))))
 
-pub add-requires : goal.add-requires
-add-requires c = c.requires.sized.small
-
-pub after-s3-requires : goal.after-s3-requires
-after-s3-requires c = c.requires.sized.small
-
-pub add_term-s3-requires : goal.add_term-s3-requires
-add_term-s3-requires c =
-    record {
-      sized = c.requires.sized;
-      le_order = order_3;
-    }
-
-pub exprb53s3_3-requires : goal.exprb53s3_3-requires
-exprb53s3_3-requires c =
-    record {
-      given = c.requires;
-      le_count = omega (arith, c.if-count-eq0.false);
-    }
+pub returns-in_err-s3 : goal.returns-in_err-s3
+unfolding numbers exprb53s3_2
+returns-in_err-s3 c =
+    go_on _ _ _ _ _ _
+    (answered_line _ _ _ _ _ _ _ c.in_ok-question.ensures c.if-r-eq0.false c.remainder-r2.ensures (omega arith)
+    (at_once _ _ _ c.add-u3.ensures
+    (first-over _ _ _ _ _ (taken_is _ _ (rw c.powi3.ensures at c.in_ok-k3.ensures)) c.after-s3.ensures
+    (next_plain _ _ _ _ refl (sum_fails _ _ (narrowed_fails _ (untaken _ (rw c.powi3-cube.ensures at c.in_err-s3.ensures))) (stand_none c.from_residual-in_err-s3.ensures))))))
 
 pub returns : goal.returns
 unfolding numbers exprb53s3_2
 returns c =
     go_on _ _ _ _ _ _
-    (answered_line _ _ _ _ _ _ _ c.may_ask-tally.ensures c.if-count-eq0.false c.remainder-r2.ensures refl
-    (at_once _ _ _ c.add.ensures
-    (first-over _ _ _ _ _ (rw c.powi3.ensures at c.phi_term-k3.ensures) c.after-s3.ensures
-    (next_part _ _ _ _ (rw c.powi3-cube.ensures at c.add_term-s3.ensures)
+    (answered_line _ _ _ _ _ _ _ c.in_ok-question.ensures c.if-r-eq0.false c.remainder-r2.ensures (omega arith)
+    (at_once _ _ _ c.add-u3.ensures
+    (first-over _ _ _ _ _ (taken_is _ _ (rw c.powi3.ensures at c.in_ok-k3.ensures)) c.after-s3.ensures
+    (next_part _ _ _ _ (taken_is _ _ (rw c.powi3-cube.ensures at c.in_ok-s3.ensures))
     (summed _ _
     (reported _ c.joined-tally.ensures
     (handed_on c.exprb53s3_3.ensures)))))))

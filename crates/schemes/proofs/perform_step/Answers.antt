@@ -1,33 +1,34 @@
 -- `schemes::perform_step`: the two tests, and the scheme, whose counts fit 32 bits. Assumes nothing.
-use mathlib.Core.Path.{◌∙◌}
+use Rattle.std.proofs.Common.{refl, arith}
 use Rattle.methods.proofs.Shape.{step_fits}
-use Rattle.methods.specs.Step.{perform_step}
-use Rattle.methods.proofs.Requires.{matrix_of}
+use Rattle.methods.specs.Step.{perform_step, progress}
+use Rattle.schemes.proofs.Choice.{told_refused, told_question, told_end, no_scheme}
 use Rattle.schemes.proofs.perform_step.Goals as goal
 
-pub mat_vec-au-requires : goal.mat_vec-au-requires
-unfolding perform_step
-mat_vec-au-requires c = matrix_of c.requires.sized
+pub returns-then-not-all_finite : goal.returns-then-not-all_finite
+unfolding perform_step progress
+returns-then-not-all_finite c = rw (← c.times-au.ensures, ← c.subtract-nonlinear.ensures, ← c.all_finite.ensures, ← c.all_finite-2.ensures, c.if-not-all_finite.true) refl
 
-pub subtract-nonlinear0-requires : goal.subtract-nonlinear0-requires
-unfolding perform_step
-subtract-nonlinear0-requires c = c.requires.sized.small
+pub returns-in_default : goal.returns-in_default
+unfolding perform_step progress
+returns-in_default c =
+    rw (← c.times-au.ensures, ← c.subtract-nonlinear.ensures, ← c.all_finite.ensures, ← c.all_finite-2.ensures, c.if-not-all_finite.false)
+    (no_scheme _ _ _ _ _ _ _ _ _ (omega (arith, c.in_default.ensures)))
 
-pub chosen-requires : goal.chosen-requires
+pub returns-in_err-x : goal.returns-in_err-x
 unfolding perform_step
-chosen-requires c =
-    record {
-      given = c.requires;
-      au_value = c.mat_vec-au.ensures;
-    }
+returns-in_err-x c =
+    rw (← c.times-au.ensures, ← c.subtract-nonlinear.ensures, ← c.all_finite.ensures, ← c.all_finite-2.ensures, c.if-not-all_finite.false)
+    (told_refused _ _ (step_fits _ _ _ _ _ _ _ _ _) c.from_residual.ensures (rw c.in-Ok.ensures at c.in_err-x.ensures))
 
-pub returns-then-good : goal.returns-then-good
+pub returns-in-Question : goal.returns-in-Question
 unfolding perform_step
-returns-then-good c =
-    rw (← c.mat_vec-au.ensures, ← c.subtract-nonlinear0.ensures, ← c.all_finite.ensures, ← c.all_finite-2.ensures, c.if-good.true)
-    ((rw c.chosen.ensures at c.finished.ensures) ∙ step_fits _ _ _ _ _ _ _ _ _)
+returns-in-Question c =
+    rw (← c.times-au.ensures, ← c.subtract-nonlinear.ensures, ← c.all_finite.ensures, ← c.all_finite-2.ensures, c.if-not-all_finite.false)
+    (told_question _ _ (step_fits _ _ _ _ _ _ _ _ _) _ _ (rw (c.in-Question.is, c.in-Ok.ensures) at c.in_ok-x.ensures))
 
-pub returns : goal.returns
+pub returns-in-End : goal.returns-in-End
 unfolding perform_step
-returns c =
-    rw (← c.mat_vec-au.ensures, ← c.subtract-nonlinear0.ensures, ← c.all_finite.ensures, ← c.all_finite-2.ensures, c.if-good.false) c.not_allowed.ensures
+returns-in-End c =
+    rw (← c.times-au.ensures, ← c.subtract-nonlinear.ensures, ← c.all_finite.ensures, ← c.all_finite-2.ensures, c.if-not-all_finite.false)
+    (told_end _ _ (step_fits _ _ _ _ _ _ _ _ _) _ _ _ _ (rw (c.in-End.is, c.in-Ok.ensures) at c.in_ok-x.ensures) c.work.ensures)

@@ -1,6 +1,5 @@
 -- `schemes::questions`: a place of the table, or none. Assumes nothing.
-use native.Mathlib.Omega.{arith}
-use mathlib.Core.Path.{refl, sym}
+use Rattle.std.proofs.Common.{refl, sym, arith}
 use Rattle.methods.specs.Step.{questions}
 use Rattle.methods.proofs.Shape.{questions-small, questions_past}
 use Rattle.schemes.proofs.questions.Goals as goal

@@ -1,8 +1,0 @@
--- `methods::single` meets its contract. Assumes nothing.
-use Rattle.std.proofs.Common.{refl}
-use Rattle.methods.specs.Tally.{single}
-use Rattle.methods.proofs.single.Goals as goal
-
-pub returns : goal.returns
-unfolding single
-returns c = refl
