@@ -9,7 +9,7 @@ ghost use Rattle.evaluation.specs.Sizes.{places, answer_room};
 ghost use Rattle.matrix.specs.Vector.{vec};
 ghost use Rattle.engine.specs.Engine.{delta, perturbed, perturbed_entry, jacobian_entry, column_ok, error_norm, estimate, clamp, first_step};
 
-use evaluation::PLACES;
+use evaluation::{PLACES, ROOM};
 
 // By how much a component is moved.
 fn delta(x: f64) -> f64
@@ -26,9 +26,8 @@ fn perturbed_entry(x: f64, i: usize, j: usize) -> f64
 }
 
 // The state that column j is asked at.
-pub fn perturbed(state: &[f64], j: usize, n: usize) -> [f64; PLACES]
-    requires n_le_places { n ≤ places }
-    requires state_len { length state.now ≡ places }
+pub fn perturbed(state: &[f64; PLACES], j: usize, n: usize) -> [f64; PLACES]
+    requires { n ≤ places }
     ensures { result ≡ perturbed n state.now j }
 {
     let mut out = [0.0; PLACES];
@@ -39,9 +38,9 @@ pub fn perturbed(state: &[f64], j: usize, n: usize) -> [f64; PLACES]
 }
 
 // Whether n differences, of an answer that begins at `at` and of f0, are finite once divided by d.
-fn column_finite(f0: &[f64], answers: &[f64], n: usize, at: usize, d: f64) -> bool
-    requires n_in_bounds { n ≤ length f0.now }
-    requires n_in_bounds_2 { at + n ≤ length answers.now }
+fn column_finite(f0: &[f64; PLACES], answers: &[f64; ROOM], n: usize, at: usize, d: f64) -> bool
+    requires n_le_places { n ≤ places }
+    requires in_answers { at + n ≤ answer_room }
     ensures { result ≡ every n (λ i. finite ((answers.now ! (at + i) ⊖ f0.now ! i) ⊘ d)) }
 {
     let mut ok = true;
@@ -52,10 +51,15 @@ fn column_finite(f0: &[f64], answers: &[f64], n: usize, at: usize, d: f64) -> bo
 }
 
 // Whether column j was asked at a finite state and is finite: of the components only the moved one can have left the finite numbers.
-fn column_ok(state: &[f64], f0: &[f64], answers: &[f64], n: usize, j: usize) -> bool
+fn column_ok(
+    state: &[f64; PLACES],
+    f0: &[f64; PLACES],
+    answers: &[f64; ROOM],
+    n: usize,
+    j: usize,
+) -> bool
     requires n_le_places { n ≤ places }
     requires j_lt_n { j < n }
-    requires state_len { (length state.now ≡ places) × (length f0.now ≡ places) × (length answers.now ≡ answer_room) }
     requires state_value { all_finite state.now ≡ true }
     ensures { result ≡ column_ok n state.now f0.now answers.now j }
 {
@@ -65,10 +69,15 @@ fn column_ok(state: &[f64], f0: &[f64], answers: &[f64], n: usize, j: usize) -> 
 }
 
 // The same of the first m columns.
-pub fn columns_ok(state: &[f64], f0: &[f64], answers: &[f64], n: usize, m: usize) -> bool
+pub fn columns_ok(
+    state: &[f64; PLACES],
+    f0: &[f64; PLACES],
+    answers: &[f64; ROOM],
+    n: usize,
+    m: usize,
+) -> bool
     requires n_le_places { n ≤ places }
     requires m_le_n { m ≤ n }
-    requires state_len { (length state.now ≡ places) × (length f0.now ≡ places) × (length answers.now ≡ answer_room) }
     requires state_value { all_finite state.now ≡ true }
     ensures { result ≡ every m (column_ok n state.now f0.now answers.now) }
 {
@@ -80,23 +89,28 @@ pub fn columns_ok(state: &[f64], f0: &[f64], answers: &[f64], n: usize, m: usize
 }
 
 // By how much each component is moved.
-fn deltas(state: &[f64], n: usize) -> [f64; PLACES]
-    requires n_le_places { n ≤ places }
-    requires state_len { length state.now ≡ places }
+fn deltas(state: &[f64; PLACES], n: usize) -> [f64; PLACES]
+    requires { n ≤ places }
     ensures { result ≡ vec n (λ j. delta (state.now ! j)) }
 {
     let mut out = [0.0; PLACES];
     for j in 0..n {
-        let u = state[j];
-        out[j] = delta(u);
+        out[j] = delta(state[j]);
     }
     out
 }
 
 // Row i of the Jacobian, at the place `row`.
-fn jacobian_row(f: f64, answers: &[f64], d: &[f64], i: usize, n: usize, out: &mut [f64], row: usize)
+fn jacobian_row(
+    f: f64,
+    answers: &[f64; ROOM],
+    d: &[f64; PLACES],
+    i: usize,
+    n: usize,
+    out: &mut [f64],
+    row: usize,
+)
     requires i_lt_places { (i < places) × (n ≤ places) }
-    requires answers_len { (length answers.now ≡ answer_room) × (length d.now ≡ places) }
     requires n_in_bounds { row + n ≤ length out.old }
     ensures { out.new ≡ stores (λ j _. (answers.now ! (places * j + i) ⊖ f) ⊘ d.now ! j) row n out.old }
 {
@@ -106,9 +120,14 @@ fn jacobian_row(f: f64, answers: &[f64], d: &[f64], i: usize, n: usize, out: &mu
 }
 
 // The Jacobian, row by row.
-pub fn jacobian_into(state: &[f64], f0: &[f64], answers: &[f64], n: usize, out: &mut [f64])
+pub fn jacobian_into(
+    state: &[f64; PLACES],
+    f0: &[f64; PLACES],
+    answers: &[f64; ROOM],
+    n: usize,
+    out: &mut [f64],
+)
     requires n_le_places { n ≤ places }
-    requires state_len { (length state.now ≡ places) × (length f0.now ≡ places) × (length answers.now ≡ answer_room) }
     requires out_len { length out.old ≡ n * n }
     ensures { out.new ≡ mat n (jacobian_entry state.now f0.now answers.now) }
 {
@@ -116,14 +135,6 @@ pub fn jacobian_into(state: &[f64], f0: &[f64], answers: &[f64], n: usize, out: 
     for i in 0..n {
         jacobian_row(f0[i], answers, &d, i, n, out, i * n);
     }
-}
-
-// Component i's own tolerance.
-fn own(absolute: &[f64], i: usize) -> f64
-    requires { i < length absolute.now }
-    ensures { result ≡ absolute.now ! i }
-{
-    absolute[i]
 }
 
 // An error entry over its tolerance.
@@ -138,19 +149,18 @@ fn ratio(relative: f64, absolute: f64, u: f64, v: f64, e: f64) -> f64
 pub fn scaled_error_norm(
     n: usize,
     relative: f64,
-    absolute: &[f64],
-    state: &[f64],
-    candidate: &[f64],
-    error: &[f64],
+    absolute: &[f64; PLACES],
+    state: &[f64; PLACES],
+    candidate: &[f64; PLACES],
+    error: &[f64; PLACES],
 ) -> f64
     requires le_n { 1 ≤ n }
     requires n_le_places { n ≤ places }
-    requires absolute_len { (length absolute.now ≡ places) × (length state.now ≡ places) × (length candidate.now ≡ places) × (length error.now ≡ places) }
     ensures { result ≡ error_norm n «relative» absolute.now state.now candidate.now error.now }
 {
-    let mut sum = float::powi2(ratio(relative, own(absolute, 0), state[0], candidate[0], error[0]));
+    let mut sum = float::powi2(ratio(relative, absolute[0], state[0], candidate[0], error[0]));
     for i in 1..n {
-        let r = ratio(relative, own(absolute, i), state[i], candidate[i], error[i]);
+        let r = ratio(relative, absolute[i], state[i], candidate[i], error[i]);
         sum = sum + float::powi2(r);
     }
     float::sqrt(sum / (n as f64))
@@ -190,18 +200,17 @@ fn clamp(x: f64, largest: f64) -> f64
 pub fn estimate_initial_step(
     n: usize,
     relative: f64,
-    absolute: &[f64],
-    state: &[f64],
-    derivative: &[f64],
+    absolute: &[f64; PLACES],
+    state: &[f64; PLACES],
+    derivative: &[f64; PLACES],
     largest: f64,
 ) -> f64
-    requires n_le_places { n ≤ places }
-    requires absolute_len { (length absolute.now ≡ places) × (length state.now ≡ places) × (length derivative.now ≡ places) }
+    requires { n ≤ places }
     ensures { result ≡ first_step n «relative» absolute.now state.now derivative.now largest }
 {
     let mut scale = 0.0;
     for i in 0..n {
-        let r = rate(relative, own(absolute, i), state[i], derivative[i]);
+        let r = rate(relative, absolute[i], state[i], derivative[i]);
         scale = float::larger(scale, r);
     }
     clamp(estimate(scale), largest)

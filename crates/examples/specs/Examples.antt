@@ -1,6 +1,6 @@
 -- Document 01's 'Proved examples', the examples of its table of refusals, and tolerances of their own (request 1), as one statement over the calls. Definitions only:
 -- proofs/Examples.antt evaluates each line.
-use Rattle.std.specs.Prelude.{ℕ, ◌≡◌, List, [], ◌∷◌, Float, replicate}
+use Rattle.std.specs.Prelude.{ℕ, ◌≡◌, List, [], ◌∷◌, Float, replicate, Ok, Err}
 use Rattle.std.specs.Float.{nan, binary64}
 use Rattle.std.specs.Float.Ieee.{of_bits}
 use Rattle.loops.specs.Loop.{mat, ◌!◌}
@@ -11,7 +11,8 @@ use Rattle.methods.specs.Sizes.{etd2_number, exprb32_number}
 use Rattle.engine.specs.Engine.{jacobian_entry}
 use Rattle.session.specs.declared.Session.{Session}
 use Rattle.session.specs.declared.Told.{Told}
-use Rattle.session.specs.declared.Answer.TheVariants.{Ask, Ready, FirstStep, Filled, Norm, Refused}
+use Rattle.session.specs.declared.Answer.TheVariants.{Ask, Ready, FirstStep, Filled, Norm}
+use Rattle.session.specs.declared.Refusal.TheVariants as Why
 use Rattle.session.specs.declared.History.{History}
 use Rattle.session.specs.declared.History.TheVariants.{Missing, Held}
 use Rattle.session.specs.declared.Wish.TheVariants.{Given, Difference}
@@ -78,7 +79,7 @@ supplies begun f = supply_call begun.told.session (only f) lent
 
 -- no question is asked: the step is ready at once, its candidate is x, and its exponentials took so many matrix products
 unfoldable pub Gives : Outcome → Float → ℕ → Type 0
-Gives r x products = (r.told.answer ≡ Ready zero+ 0 1 products) × (r.out ≡ x ∷ [])
+Gives r x products = (r.told.answer ≡ Ok (Ready zero+ 0 1 products)) × (r.out ≡ x ∷ [])
 
 -- the numbers of the schemes
 abbrev pub LawsonEuler : ℕ
@@ -126,8 +127,8 @@ pub record Examples : Type 0 where
   -- 'with history 1, 3.5'
   pub etd2_history : Gives (begins (remembering Etd2 (num 1) (num 2) (num 1)) zero+ (num 1)) (decimal 35 1) 14
   -- 'Exprb32 with derivative 2 supplied: error norm 0': one question, at time 1
-  pub exprb32_asks : (begins (resting Exprb32 (num 1) (num 2)) zero+ (num 1)).told.answer ≡ Ask (num 1)
-  pub exprb32 : (supplies (begins (resting Exprb32 (num 1) (num 2)) zero+ (num 1)) (num 2)).told.answer ≡ Ready zero+ 1 1 16
+  pub exprb32_asks : (begins (resting Exprb32 (num 1) (num 2)) zero+ (num 1)).told.answer ≡ Ok (Ask (num 1))
+  pub exprb32 : (supplies (begins (resting Exprb32 (num 1) (num 2)) zero+ (num 1)) (num 2)).told.answer ≡ Ok (Ready zero+ 1 1 16)
   -- 's for norm 0.5 is 0'
   pub s_half : Squares 0x3fe0_0000_0000_0000 0
   -- 'just above 0.5, 1'
@@ -139,48 +140,48 @@ pub record Examples : Type 0 where
   -- '2^31, 32'
   pub s_top : Squares 0x41e0_0000_0000_0000 32
   -- 'Just above 2^31 is refused by 6'
-  pub s_above_top : (exponential_call 1 (single 0x41e0_0000_0000_0001) lent).answer ≡ Refused 6
+  pub s_above_top : (exponential_call 1 (single 0x41e0_0000_0000_0001) lent).answer ≡ Err Why.Arithmetic
   -- 'Differencing 4·u at 1 gives 4'
-  pub differencing_asks : asked.told.answer ≡ Ask zero+
-  pub differencing_ready : differenced.told.answer ≡ Ready zero+ 1 1 16
+  pub differencing_asks : asked.told.answer ≡ Ok (Ask zero+)
+  pub differencing_ready : differenced.told.answer ≡ Ok (Ready zero+ 1 1 16)
   pub differencing : jacobian_of differenced.told.session ≡ num 4 ∷ []
   -- 'Bare error norm, n = 1, error −3, state and candidate 0, both tolerances 1: 3'
-  pub error_norm : norm_call 1 (num 1) (only (num 1)) (only (minus 3)) (only zero+) (only zero+) ≡ Norm (num 3)
+  pub error_norm : norm_call 1 (num 1) (only (num 1)) (only (minus 3)) (only zero+) (only zero+) ≡ Ok (Norm (num 3))
   -- 'First step: tolerances 1 and 1, largest 0.005, gives 0.005'
-  pub first_step : (first_step_call (resting NorsettEuler (num 1) (num 2)).session (decimal 5 3)).answer ≡ FirstStep (decimal 5 3)
+  pub first_step : (first_step_call (resting NorsettEuler (num 1) (num 2)).session (decimal 5 3)).answer ≡ Ok (FirstStep (decimal 5 3))
   -- the table's 'open with n = 17'
-  pub refused_1 : (open_call (running NorsettEuler 17 (num 1) (num 1) (num 2) Missing (replicate 16 zero+))).answer ≡ Refused 1
+  pub refused_1 : (open_call (running NorsettEuler 17 (num 1) (num 1) (num 2) Missing (replicate 16 zero+))).answer ≡ Err Why.Places
   -- 'scheme 16'
-  pub refused_2 : (resting 16 (num 1) (num 2)).answer ≡ Refused 2
+  pub refused_2 : (resting 16 (num 1) (num 2)).answer ≡ Err Why.Scheme
   -- 'supply with a NaN'
-  pub refused_3 : (supplies (begins (resting Exprb32 (num 1) (num 2)) zero+ (num 1)) nan).told.answer ≡ Refused 3
+  pub refused_3 : (supplies (begins (resting Exprb32 (num 1) (num 2)) zero+ (num 1)) nan).told.answer ≡ Err Why.NotFinite
   -- 'relative tolerance 0'
-  pub refused_4 : (open_call (running NorsettEuler 1 zero+ (num 1) (num 2) Missing (replicate 16 zero+))).answer ≡ Refused 4
+  pub refused_4 : (open_call (running NorsettEuler 1 zero+ (num 1) (num 2) Missing (replicate 16 zero+))).answer ≡ Err Why.Tolerance
   -- 'step 0'
-  pub refused_5 : (begins (resting NorsettEuler (num 1) (num 2)) zero+ zero+).told.answer ≡ Refused 5
+  pub refused_5 : (begins (resting NorsettEuler (num 1) (num 2)) zero+ zero+).told.answer ≡ Err Why.Step
   -- 'n = 1, J = [2^40], step 1'
-  pub refused_6 : (begins (resting NorsettEuler (num 1) (num 2)) (of_bits binary64 0x4270_0000_0000_0000) (num 1)).told.answer ≡ Refused 6
+  pub refused_6 : (begins (resting NorsettEuler (num 1) (num 2)) (of_bits binary64 0x4270_0000_0000_0000) (num 1)).told.answer ≡ Err Why.Arithmetic
   -- 'supply to a resting session'
-  pub refused_7 : (supply_call (resting NorsettEuler (num 1) (num 2)).session (only (num 2)) lent).told.answer ≡ Refused 7
+  pub refused_7 : (supply_call (resting NorsettEuler (num 1) (num 2)).session (only (num 2)) lent).told.answer ≡ Err Why.Phase
 
 -- ---- request 1: each component has its own tolerance
 pub record OwnTolerances : Type 0 where
   -- the tolerances 1 and 2 divide the errors 1 and 14 into 1 and 7, so the norm is 5
-  pub error_norm : norm_call 2 (num 1) (pair (num 1) (num 2)) (pair (num 1) (num 14)) (pair zero+ zero+) (pair zero+ zero+) ≡ Norm (num 5)
+  pub error_norm : norm_call 2 (num 1) (pair (num 1) (num 2)) (pair (num 1) (num 14)) (pair zero+ zero+) (pair zero+ zero+) ≡ Ok (Norm (num 5))
   -- with 1 and 7 both rates are 1, 2/(1 + 1) and 8/(7 + 1), which suggests 0.01; with 1 for both it would be 0.0025
-  pub first_step : (first_step_call (tolerating (pair (num 1) (num 7))).session (decimal 5 3)).answer ≡ FirstStep (decimal 5 3)
+  pub first_step : (first_step_call (tolerating (pair (num 1) (num 7))).session (decimal 5 3)).answer ≡ Ok (FirstStep (decimal 5 3))
   -- a tolerance past n
-  pub refused_1 : (tolerating (replicate 16 (num 1))).answer ≡ Refused 1
+  pub refused_1 : (tolerating (replicate 16 (num 1))).answer ≡ Err Why.Places
   -- the second of two is not positive
-  pub refused_4 : (tolerating (pair (num 1) zero+)).answer ≡ Refused 4
+  pub refused_4 : (tolerating (pair (num 1) zero+)).answer ≡ Err Why.Tolerance
 
 -- ---- request 2: the exponential tells how far it went
 pub record Reaches : Type 0 where
   -- the zero matrix: its first term is added and found small; the identity is no term
-  pub zero : (exponential_call 1 (single 0) lent).answer ≡ Filled 1 0
+  pub zero : (exponential_call 1 (single 0) lent).answer ≡ Ok (Filled 1 0)
   -- [0.5] takes 15 terms, the most that there are
-  pub half : (exponential_call 1 (single 0x3fe0_0000_0000_0000) lent).answer ≡ Filled 15 0
+  pub half : (exponential_call 1 (single 0x3fe0_0000_0000_0000) lent).answer ≡ Ok (Filled 15 0)
   -- [1] is halved, and squared once
-  pub one : (exponential_call 1 (single 0x3ff0_0000_0000_0000) lent).answer ≡ Filled 15 1
+  pub one : (exponential_call 1 (single 0x3ff0_0000_0000_0000) lent).answer ≡ Ok (Filled 15 1)
   -- phi_1 of 2 at J = [0]: a matrix whose square is zero, divided by 4
-  pub phi_action : (phi_call 1 1 (num 1) (zero+ ∷ []) (num 2 ∷ []) lent).answer ≡ Filled 2 2
+  pub phi_action : (phi_call 1 1 (num 1) (zero+ ∷ []) (num 2 ∷ []) lent).answer ≡ Ok (Filled 2 2)

@@ -16,8 +16,9 @@ use Rattle.float.proofs.Sums.{most_ext}
 use Rattle.float.specs.Arith.{◌⊗◌, zero+, one, epsilon, limit, finite, abs, most}
 use Rattle.matrix.specs.Matrix.{at, identity, mat_mul, div_all, add_all, max_abs, row_sum, norm, admitted, squarings, power, scaled, next_term, small, Series, series, taylor, squared, exponential, reach}
 use Rattle.matrix.specs.Vector.{zeros}
+use Rattle.std.specs.Prelude.{Option, is_some}
 use Rattle.matrix.specs.declared.Reach.{Reach}
-use Rattle.methods.specs.declared.Action.{Action}
+use Rattle.methods.specs.Tally.{Tried}
 use Rattle.methods.specs.Phi.{checked, over, augmented_entry, augmented, phi_action, phi_term, exp_action}
 use Rattle.mirror.proofs.Floats.{Mirror, m_refl, add_m, mul_m, mul_same, div_m, abs_m, zero_m, agrees}
 use Rattle.mirror.specs.Rows.{SameRowSums}
@@ -120,13 +121,13 @@ module _ {n : ℕ} {σ : ℕ → Bool} where
   reach_m A = let s = ap squarings (norm_m A) in rw (admitted_m A, terms_at _ _ s A, s)
 
 -- ---- actions
-pub record Actions (n : ℕ) (σ : ℕ → Bool) (p q : Action) : Type 0 where
+pub record Actions (n : ℕ) (σ : ℕ → Bool) (p q : Tried) : Type 0 where
   pub tallies : p.tally ≡ q.tally
   pub vs : Vecs n σ p.v q.v
 
-checked_m : {n : ℕ} {σ : ℕ → Bool} (r r' : Reach) {x x' : List Float} → r ≡ r' → Vecs n σ x x' → Actions n σ (checked r x) (checked r' x')
+checked_m : {n : ℕ} {σ : ℕ → Bool} (r r' : Option Reach) {x x' : List Float} → r ≡ r' → Vecs n σ x x' → Actions n σ (checked r x) (checked r' x')
 unfolding checked
-checked_m {n} {σ} r r' {x} {x'} e p = subst (λ (t : Reach). Actions n σ (checked r x) (checked t x')) e (record { tallies = refl; vs = go r.ok })
+checked_m {n} {σ} r r' {x} {x'} e p = subst (λ (t : Option Reach). Actions n σ (checked r x) (checked t x')) e (record { tallies = refl; vs = go (is_some r) })
   where
     go : (c : Bool) → Vecs n σ (cond c x zeros) (cond c x' zeros)
     go true = p
@@ -178,7 +179,7 @@ module _ {n : ℕ} {σ : ℕ → Bool} where
       checked_m _ _ (reach_m M)
       (vec_m n σ _ _ (λ i h. m_sign (ap₂ unlike (ext_below n σ i h) (ext_past n σ (n + order - 1) g) ∙ unlike_false (σ i)) (cell (exp_m M) i (n + order - 1) l)))
 
-  pub over_m : {f f' : List Float → List Float} {p p' : Action} → Actions n σ p p' → ((x x' : List Float) → Vecs n σ x x' → Vecs n σ (f x) (f' x')) → Actions n σ (over f p) (over f' p')
+  pub over_m : {f f' : List Float → List Float} {p p' : Tried} → Actions n σ p p' → ((x x' : List Float) → Vecs n σ x x' → Vecs n σ (f x) (f' x')) → Actions n σ (over f p) (over f' p')
   unfolding over
   over_m {p = p} {p' = p'} P F = record { tallies = P.tallies; vs = F p.v p'.v P.vs }
 

@@ -7,11 +7,10 @@ use lib.Dec.{lit<}
 use lib.Ieee.{Float}
 use lib.ListN.{get_or}
 use Rattle.float.specs.Arith.{◌⊘◌}
-use Rattle.methods.specs.declared.Tally.{Tally}
-use Rattle.methods.specs.declared.Action.{Action}
 use Rattle.methods.specs.declared.Point.{Point}
 use Rattle.methods.specs.Numbers.{num, minus}
-use Rattle.methods.specs.Tally.{clean, unadmitted, joined}
+use Rattle.std.specs.Prelude.{Option, Some, None}
+use Rattle.methods.specs.Tally.{Report, Tried, clean, unadmitted, joined}
 use Rattle.methods.specs.Phi.{more, more_all, nothing, combine_all}
 use Rattle.methods.specs.Pass.{Pass, ask, done, also, Line, now, try, question, shifted_stage, remainder, ◌>>=◌}
 use Rattle.methods.specs.Schemes.{a52, a54, lawson_euler, norsett_euler, etdrk2, etdrk3, etdrk4, hoch_ost4, exp4, epirk4s3, epirk4s3_a, epirk4s3_b, epirk5s3}
@@ -20,20 +19,25 @@ use Rattle.methods.specs.Step.{pass}
 use Rattle.mirror.proofs.Vectors.{Vecs, Mats, no_terms, one_term, zeros_m, plus_m, minus_m, scale_m, axpy_m, combine_m, mat_vec_m}
 use Rattle.mirror.proofs.Matrices.{Actions, over_m, phi_action_m, phi_term_m, exp_action_m}
 
+-- the nonlinear part of the last step, where there is one
+pub data Pasts (n : ℕ) (σ : ℕ → Bool) : Option (List Float) → Option (List Float) → Type 0 where
+  no_past : Pasts n σ None None
+  past : {w w' : List Float} → Vecs n σ w w' → Pasts n σ (Some w) (Some w')
+
 pub data Passes (n : ℕ) (σ : ℕ → Bool) : Pass → Pass → Type 0 where
-  ask_m : (tally : Tally) {x x' : List Float} (t : Float) {k k' : List Float → Pass} → Vecs n σ x x' → ((r r' : List Float) → Vecs n σ r r' → Passes n σ (k r) (k' r'))
+  ask_m : (tally : Report) {x x' : List Float} (t : Float) {k k' : List Float → Pass} → Vecs n σ x x' → ((r r' : List Float) → Vecs n σ r r' → Passes n σ (k r) (k' r'))
       → Passes n σ (ask tally x t k) (ask tally x' t k')
-  done_m : (tally : Tally) {x x' e e' : List Float} → Vecs n σ x x' → Vecs n σ e e' → Passes n σ (done tally x e) (done tally x' e')
+  done_m : (tally : Report) {x x' e e' : List Float} → Vecs n σ x x' → Vecs n σ e e' → Passes n σ (done tally x e) (done tally x' e')
 
 data Lines (n : ℕ) (σ : ℕ → Bool) : Line → Line → Type 0 where
   now_m : {x x' : List Float} → Vecs n σ x x' → Lines n σ (now x) (now x')
-  try_m : {p p' : Action} → Actions n σ p p' → Lines n σ (try p) (try p')
+  try_m : {p p' : Tried} → Actions n σ p p' → Lines n σ (try p) (try p')
   question_m : {x x' : List Float} (t : Float) {f f' : List Float → List Float} → Vecs n σ x x' → ((r r' : List Float) → Vecs n σ r r' → Vecs n σ (f r) (f' r'))
       → Lines n σ (question x t f) (question x' t f')
 
 module _ {n : ℕ} {σ : ℕ → Bool} where
-  also_m : (b b' : Tally) → b ≡ b' → {p p' : Pass} → Passes n σ p p' → Passes n σ (also b p) (also b' p')
-  also_m b b' e {p} {p'} q = subst (λ (c : Tally). Passes n σ (also b p) (also c p')) e (go q)
+  also_m : (b b' : Report) → b ≡ b' → {p p' : Pass} → Passes n σ p p' → Passes n σ (also b p) (also b' p')
+  also_m b b' e {p} {p'} q = subst (λ (c : Report). Passes n σ (also b p) (also c p')) e (go q)
     where
       go : {p p' : Pass} → Passes n σ p p' → Passes n σ (also b p) (also b p')
       go (ask_m tally t u k) = unfold also in ask_m (joined b tally) t u k
@@ -64,7 +68,7 @@ order_4 : 0 < 4
 order_4 = lit< tt
 
 module _ {n : ℕ} {σ : ℕ → Bool} where
-  action_m : {s s' k k' : Action} (c : Float) → Actions n σ s s' → Actions n σ k k' → Actions n σ (more n s c k) (more n s' c k')
+  action_m : {s s' k k' : Tried} (c : Float) → Actions n σ s s' → Actions n σ k k' → Actions n σ (more n s c k) (more n s' c k')
   unfolding more
   action_m c S K = record { tallies = λ i. joined (S.tallies i) (K.tallies i); vs = axpy_m c S.vs K.vs }
 
@@ -127,7 +131,7 @@ module _ {n : ℕ} {σ : ℕ → Bool} {a a' u u' f f' : List Float} (t h : Floa
   unfolding exp4
   exp4_m = search parts depth 60
 
-  epirk4s3_m : {k k' l l' : Action} (c2 c3 r2c r3c q2c q3c : Float) → Actions n σ k k' → Actions n σ l l'
+  epirk4s3_m : {k k' l l' : Tried} (c2 c3 r2c r3c q2c q3c : Float) → Actions n σ k k' → Actions n σ l l'
       → Passes n σ (epirk4s3 n a u t h f k l c2 c3 r2c r3c q2c q3c) (epirk4s3 n a' u' t h f' k' l' c2 c3 r2c r3c q2c q3c)
   unfolding epirk4s3
   epirk4s3_m c2 c3 r2c r3c q2c q3c K L = search parts depth 60
@@ -160,10 +164,10 @@ module _ {n : ℕ} {σ : ℕ → Bool} {a a' u u' f f' : List Float} (t h : Floa
   unfolding exprb32
   exprb32_m = search parts depth 60
 
-  etd2_m : (held : Bool) {w w' : List Float} → (held ≡ true → Vecs n σ w w') → Passes n σ (etd2 n a u h f held w) (etd2 n a' u' h f' held w')
+  etd2_m : {o o' : Option (List Float)} → Pasts n σ o o' → Passes n σ (etd2 n a u h f o) (etd2 n a' u' h f' o')
   unfolding etd2
-  etd2_m false W = search parts depth 60
-  etd2_m true {w} {w'} W0 = let W : Vecs n σ w w' = W0 refl in search parts depth 60
+  etd2_m no_past = search parts depth 60
+  etd2_m (past W) = search parts depth 60
 
   module _ {w w' : List Float} (W : Vecs n σ w w') where
     etdrk2_m : Passes n σ (etdrk2 n a u t h f w) (etdrk2 n a' u' t h f' w')
@@ -241,17 +245,17 @@ choose_m k none_m D = D
 choose_m zero (more_m P R) D = P
 choose_m (suc k) (more_m P R) D = choose_m k R D
 
--- what the schemes start from; a history where one is held
+-- what the schemes start from
 pub data Points (n : ℕ) (σ : ℕ → Bool) : Point → Point → Type 0 where
-  points : (t h : Float) (held : Bool) {u u' f f' w w' : List Float} → Vecs n σ u u' → Vecs n σ f f' → (held ≡ true → Vecs n σ w w')
+  points : (t h : Float) {u u' f f' : List Float} {o o' : Option (List Float)} → Vecs n σ u u' → Vecs n σ f f' → Pasts n σ o o'
       → Points n σ
-      (record { n = n; time = t; step = h; state = u; f0 = f; held = held; previous = w })
-      (record { n = n; time = t; step = h; state = u'; f0 = f'; held = held; previous = w' })
+      (record { n = n; time = t; step = h; state = u; f0 = f; previous = o })
+      (record { n = n; time = t; step = h; state = u'; f0 = f'; previous = o' })
 
 pub pass_m : {n : ℕ} {σ : ℕ → Bool} {p p' : Point} {a a' v v' g g' : List Float} (k : ℕ) → Points n σ p p' → Mats n σ a a' → Vecs n σ v v' → Vecs n σ g g' → Passes n σ (pass k p a v g)
     (pass k p' a' v' g')
 unfolding pass
-pass_m k (points t h held U F W) A B G =
+pass_m k (points t h U F W) A B G =
     choose_m k
     (more_m (lawson_euler_m t h A U G)
     (more_m (norsett_euler_m t h A U F)
@@ -266,7 +270,7 @@ pass_m k (points t h held U F W) A B G =
     (more_m (exprb53s3_m t h A U F)
     (more_m (epirk5p1_m t h A U F)
     (more_m (epirk5p2_m t h A U F)
-    (more_m (etd2_m t h A U G held W)
+    (more_m (etd2_m t h A U G W)
     (more_m (exprb32_m t h A U F)
     (more_m (exprb43_m t h A U F B) none_m))))))))))))))))
     (done_m unadmitted zeros_m zeros_m)

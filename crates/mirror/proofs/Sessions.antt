@@ -19,12 +19,12 @@ use Rattle.session.specs.declared.Attempt.{Attempt}
 use Rattle.session.specs.declared.Attempt.TheVariants.{None, Supplied, Differenced}
 use Rattle.session.specs.declared.Wants.{Wants}
 use Rattle.session.specs.Session.{Run, Trial, joined, fresh, idle, clear, used_history, used_jacobian, size_ok, step_clear, run_places, attempt_places}
-use Rattle.session.specs.Session.{good1, good2, good3, good4, good5, good7, phase_of, session_tests, is_held, point_of, progress_of, progress}
+use Rattle.session.specs.Session.{good1, good2, good3, good4, good5, good7, phase_of, session_tests, previous_of, point_of, progress_of, progress}
 use Rattle.session.specs.Calls.{opened, nothing, begun, rested, answered, moved}
 use Rattle.mirror.specs.Mirror.{within}
 use Rattle.mirror.proofs.Floats.{abs_m, div_m, square_m}
 use Rattle.mirror.proofs.Vectors.{Vecs, cross}
-use Rattle.mirror.proofs.Passes.{points}
+use Rattle.mirror.proofs.Passes.{Pasts, no_past, past, points}
 use Rattle.mirror.proofs.Steps.{Progresses, refused_m, step_m}
 use Rattle.mirror.proofs.Places.{Placed, slots, slot, blank_m, finite_p, clear_p, clear-answers, vecs, mats, answer_m, store_m}
 
@@ -123,16 +123,16 @@ module _ {n : ℕ} {σ : ℕ → Bool} where
   first_m rtol atol largest U F = ap (λ (z : Float). clamp (estimate z) largest) (most_ext n _ _ zero+ (λ i h. rate_m rtol (atol ! i) U F i h))
 
   -- ---- the attempt, as far as its answers go
-  history_m : {w w' : List Float} (held : History) → Placed (within (used_history held n)) σ w w' → is_held held ≡ true → Vecs n σ w w'
-  unfolding used_history is_held
-  history_m Missing W e = absurd (false≢true e)
-  history_m Held W e = vecs W
+  history_m : {w w' : List Float} (held : History) → Placed (within (used_history held n)) σ w w' → Pasts n σ (previous_of held w) (previous_of held w')
+  unfolding used_history previous_of
+  history_m Missing W = no_past
+  history_m Held W = past (vecs W)
 
   pub progress_m : {s s' : Session} → Lives n σ s s' → Progresses n σ (progress s) (progress s')
   unfolding progress progress_of point_of used_jacobian
   progress_m (live N (run_m k t rtol atol held U F W) (trial_m h None c D J R)) = refused_m
   progress_m (live N (run_m k t rtol atol held U F W) (trial_m h Supplied c {r = r} {r' = r'} D J R)) =
-      step_m r r' k (c - 0) (points t h (is_held held) (vecs U) (vecs F) (history_m held W)) (mats J) (λ j l. answer_m c N R j (omega arith))
+      step_m r r' k (c - 0) (points t h (vecs U) (vecs F) (history_m held W)) (mats J) (λ j l. answer_m c N R j (omega arith))
   progress_m (live N (run_m k t rtol atol held U F W) (trial_m h Differenced c D J R)) = absurd (true≢false D)
 
   -- ---- the sessions that the calls make

@@ -7,7 +7,7 @@ use mathlib.Core.List.{List}
 use lib.Ieee.{Float}
 use Rattle.float.specs.Arith.{finite}
 use Rattle.methods.specs.declared.Point.{Point}
-use Rattle.methods.specs.declared.Tally.{Tally}
+use Rattle.methods.specs.Tally.{Report}
 use Rattle.methods.specs.declared.Work.{Work}
 use Rattle.methods.specs.Tally.{clean, joined, work_of}
 use Rattle.methods.specs.Pass.{Pass, Stand, fails, asks, ends, counting, under, answer, replay}
@@ -18,7 +18,7 @@ use Rattle.mirror.proofs.Passes.{Passes, ask_m, done_m, Points, points, pass_m}
 data Stands (n : ℕ) (σ : ℕ → Bool) : Stand → Stand → Type 0 where
   fails_m : Stands n σ fails fails
   asks_m : {x x' : List Float} (t : Float) → Vecs n σ x x' → Stands n σ (asks x t) (asks x' t)
-  ends_m : {x x' e e' : List Float} (tally : Tally) → Vecs n σ x x' → Vecs n σ e e' → Stands n σ (ends x e tally) (ends x' e' tally)
+  ends_m : {x x' e e' : List Float} (tally : Report) → Vecs n σ x x' → Vecs n σ e e' → Stands n σ (ends x e tally) (ends x' e' tally)
 
 pub data Progresses (n : ℕ) (σ : ℕ → Bool) : Progress → Progress → Type 0 where
   refused_m : Progresses n σ refused refused
@@ -34,7 +34,7 @@ module _ {n : ℕ} {σ : ℕ → Bool} where
       go false = fails_m
 
   -- under one report
-  under_m : {p p' : Stand} (tally : Tally) → Stands n σ p p' → Stands n σ (under tally p) (under tally p')
+  under_m : {p p' : Stand} (tally : Report) → Stands n σ p p' → Stands n σ (under tally p) (under tally p')
   unfolding under
   under_m {p} {p'} tally q = or_fails tally.ok tally.ok refl (go q)
     where
@@ -68,8 +68,8 @@ module _ {n : ℕ} {σ : ℕ → Bool} where
   pub step_m : {p p' : Point} {a a' : List Float} (r r' : List Float) (k c : ℕ) → Points n σ p p' → Mats n σ a a' → ((j : ℕ) → j < c → Vecs n σ (answer n r j) (answer n r' j))
       → Progresses n σ (perform_step k p a c 0 r) (perform_step k p' a' c 0 r')
   unfolding perform_step
-  step_m r r' k c (points t h held U F W) A R =
+  step_m r r' k c (points t h U F W) A R =
       let B = mat_vec_m A U in
       let G = minus_m F B in
       or_refused _ _ (ap₂ ◌&&◌ (all_finite_m B) (all_finite_m G))
-      (finish_m G (replay_m c r r' R (pass_m k (points t h held U F W) A B G) c 0 (omega arith)))
+      (finish_m G (replay_m c r r' R (pass_m k (points t h U F W) A B G) c 0 (omega arith)))

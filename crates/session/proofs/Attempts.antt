@@ -8,19 +8,14 @@ use lib.ListN.{length, take, drop, length-drop}
 use lib.Seq.{length-take-le, take-take}
 use Rattle.loops.specs.Loop.{stores, ◌!◌}
 use Rattle.loops.proofs.Stores.{stores_in, length-stores}
-use Rattle.evaluation.specs.Sizes.{places, answer_room}
+use Rattle.evaluation.specs.Sizes.{places}
 use Rattle.session.specs.declared.Head.{Head}
-use Rattle.session.specs.Figures.{FIGURES, state_at, derivative_at, jacobian_at, answers_at, session_of}
+use Rattle.session.specs.Figures.{FIGURES, jacobian_at, session_of}
 use Rattle.session.proofs.Laws.{area}
 use Rattle.session.proofs.Parts.{is_part, slice_part, jacobian_slice}
 
 pub lent_length : (x : List Float) → length x ≡ FIGURES → (at n : ℕ) → at + n ≤ FIGURES → length (take n (drop at x)) ≡ n
 lent_length x e at n h = length-take-le n (drop at x) (omega (arith, length-drop at x))
-
--- of the state, the derivative and the answers
-pub lent_lengths : (x : List Float) → length x ≡ FIGURES
-    → (length (take places (drop state_at x)) ≡ places) × (length (take places (drop derivative_at x)) ≡ places) × (length (take answer_room (drop answers_at x)) ≡ answer_room)
-lent_lengths x e = (lent_length x e state_at places (omega arith), lent_length x e derivative_at places (omega arith), lent_length x e answers_at answer_room (omega arith))
 
 -- the Jacobian's n * n entries, lent from its place up to their end
 module _ (k : Head) (x : List Float) (e : length x ≡ FIGURES) (h : k.n ≤ places) where

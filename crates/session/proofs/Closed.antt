@@ -18,9 +18,12 @@ use Rattle.methods.specs.Sizes.{etd2_number}
 use Rattle.methods.specs.declared.Work.{Work}
 use Rattle.methods.specs.Step.{Progress, refused, asking, ended}
 use Rattle.methods.specs.Shape.{Whole}
+use Rattle.std.specs.Prelude.{Ok, Result, Err, ⊤}
+use Rattle.session.specs.declared.Refusal.{Refusal}
+use Rattle.session.specs.declared.Refusal.TheVariants as Why
 use Rattle.session.specs.declared.Session.{Session}
 use Rattle.session.specs.declared.Told.{Told}
-use Rattle.session.specs.declared.Answer.TheVariants.{Resting, Refused}
+use Rattle.session.specs.declared.Answer.TheVariants.{Resting}
 use Rattle.session.specs.declared.History.TheVariants.{Held}
 use Rattle.session.specs.declared.Attempt.TheVariants.{None}
 use Rattle.session.specs.declared.Wish.{Wish}
@@ -28,7 +31,7 @@ use Rattle.session.specs.declared.Wish.TheVariants.{Given, Difference}
 use Rattle.session.specs.declared.Phase.TheVariants.{Rest, Asking, Waiting}
 use Rattle.session.specs.declared.Wants.{Wants}
 use Rattle.session.specs.declared.Wants.TheVariants.{Any, Only}
-use Rattle.session.specs.Tests.{fault, condition, unless}
+use Rattle.session.specs.Tests.{tested, condition, unless}
 use Rattle.session.specs.Values.{number, values_of}
 use Rattle.session.specs.Session.{jacobian_room, schemes, Run, fresh, idle, clear, clear_answers, used_history, used_jacobian, step_clear, wanted, wanted_by}
 use Rattle.session.specs.Session.{size_ok, run_places, attempt_places, good1, history_ok, good2, good4, step_ok, good5, good3, session_tests, progress}
@@ -38,8 +41,8 @@ use Rattle.session.specs.Calls.{open_call, begin_call, supply_call, accept_call,
 use Rattle.session.specs.Refusals.{Kept, Unchanged}
 use Rattle.session.specs.Runs.{Call, begin, supply, accept, drop, first_step, perform, after}
 use Rattle.session.specs.Claims.{TypedCall, TypedCalls, Closed, Closes}
-use Rattle.session.proofs.Tests.{unless_either}
-use Rattle.session.proofs.Laws.{session_row, fault_none, wants_more, begin_passes, supply_passes, accept_passes, first_step_passes, attempt_row, vector_row}
+use Rattle.session.proofs.Tests.{some_number, unless_either}
+use Rattle.session.proofs.Laws.{session_row, passed_sound, wants_more, begin_passes, supply_passes, accept_passes, first_step_passes, attempt_row, vector_row}
 use Rattle.session.proofs.Clear.{clear-zeros, clear-answers-zeros, finite-zeros, vector_clear, clear-answered, finite-answered}
 use Rattle.session.proofs.Refusals.{refusals}
 use Rattle.session.proofs.Ends.{Wholes, ended_whole}
@@ -72,9 +75,9 @@ sized true p e = (refl, e)
 sized false p e = absurd (false≢true e)
 
 -- both ways: from the rows, and to them
-pub passed_good : (wants : Wants) (s : Session) → fault (session_tests wants s) ≡ 0 → Good s
+pub passed_good : (wants : Wants) (s : Session) → tested (session_tests wants s) ≡ Ok tt → Good s
 passed_good wants s e =
-    let one = sized (size_ok s.n) (run_places s && attempt_places s) (unfold condition session_tests good1 in session_row wants s e 1) in
+    let one = sized (size_ok s.n) (run_places s && attempt_places s) (unfold condition session_tests good1 in session_row wants s e Why.Places) in
     let both = both_true (run_places s) (attempt_places s) one.1 in
     let run =
     both_true (clear s.n s.absolute && clear s.n s.state && clear s.n s.derivative) (clear (used_history s.history s.n) s.previous)
@@ -87,11 +90,11 @@ passed_good wants s e =
     let head = both_true (step_clear s.attempt s.step) (clear (used_jacobian s.attempt s.n) s.jacobian) trial.0 in
     let scheme =
     both_true (ltb s.scheme schemes && history_ok s.history s.scheme) (leb s.count (wanted_by s))
-    (unfold condition session_tests good2 in session_row wants s e 2) in
+    (unfold condition session_tests good2 in session_row wants s e Why.Scheme) in
     let scheme2 = both_true (ltb s.scheme schemes) (history_ok s.history s.scheme) scheme.0 in
     let all =
     both_true (finite s.time && all_finite s.state && all_finite s.derivative && all_finite s.previous && all_finite s.jacobian) (all_finite s.answers)
-    (unfold condition session_tests good3 in session_row wants s e 3) in
+    (unfold condition session_tests good3 in session_row wants s e Why.NotFinite) in
     let four = both_true (finite s.time && all_finite s.state && all_finite s.derivative && all_finite s.previous) (all_finite s.jacobian) all.0 in
     let three = both_true (finite s.time && all_finite s.state && all_finite s.derivative) (all_finite s.previous) four.0 in
     let pair = both_true (finite s.time && all_finite s.state) (all_finite s.derivative) three.0 in
@@ -108,8 +111,8 @@ passed_good wants s e =
       scheme = scheme2.0;
       history = scheme2.1;
       count = scheme.1;
-      tolerances = unfold condition session_tests in session_row wants s e 4;
-      attempt = unfold condition session_tests in session_row wants s e 5;
+      tolerances = unfold condition session_tests in session_row wants s e Why.Tolerance;
+      attempt = unfold condition session_tests in session_row wants s e Why.Step;
       time_finite = first.0;
       state_finite = first.1;
       derivative-finite = pair.1;
@@ -119,7 +122,7 @@ passed_good wants s e =
     }
 
 pub good_closed : {s : Session} → Good s → Closed s
-unfolding Closed fault session_tests good1 run_places attempt_places good2 good3
+unfolding Closed tested session_tests good1 run_places attempt_places good2 good3
 good_closed {s} g wants =
     rw (
       g.size,
@@ -155,7 +158,7 @@ unfolding attempt_of good5
 step_good Given step e = e
 step_good Difference step e = e
 
-pub begun_good : (s : Session) (step : Float) (w : Wish) (j : List Float) (lent : ℕ) → Good s → fault (attempt_tests s.n step (attempt_of w) j lent) ≡ 0
+pub begun_good : (s : Session) (step : Float) (w : Wish) (j : List Float) (lent : ℕ) → Good s → tested (attempt_tests s.n step (attempt_of w) j lent) ≡ Ok tt
     → Good (begun s step (attempt_of w) j)
 unfolding begun fresh good4
 begun_good s step w j lent g e =
@@ -167,22 +170,22 @@ begun_good s step w j lent g e =
       derivative = g.derivative;
       previous = g.previous;
       step = started w step;
-      jacobian = (both_true (clear (used_jacobian (attempt_of w) s.n) j) (eqb lent s.n) (unfold condition attempt_tests in row 1)).0;
+      jacobian = (both_true (clear (used_jacobian (attempt_of w) s.n) j) (eqb lent s.n) (unfold condition attempt_tests in row Why.Places)).0;
       answers = clear-answers-zeros 0 s.n answer_room;
       scheme = g.scheme;
       history = g.history;
       count = le-leb 0 (wanted s.scheme s.n (attempt_of w)) (omega arith);
       tolerances = g.tolerances;
-      attempt = step_good w step (unfold condition attempt_tests in row 5);
+      attempt = step_good w step (unfold condition attempt_tests in row Why.Step);
       time_finite = g.time_finite;
       state_finite = g.state_finite;
       derivative-finite = g.derivative-finite;
       previous_finite = g.previous_finite;
-      jacobian_finite = unfold condition attempt_tests in row 3;
+      jacobian_finite = unfold condition attempt_tests in row Why.NotFinite;
       answers-finite = finite-zeros answer_room;
     }
 
-pub answered_good : (s : Session) (x : List Float) (lent : Bool) → length x ≡ places → Good s → s.count < wanted_by s → fault (vector_tests s.n x lent) ≡ 0 → Good (answered s x)
+pub answered_good : (s : Session) (x : List Float) (lent : Bool) → length x ≡ places → Good s → s.count < wanted_by s → tested (vector_tests s.n x lent) ≡ Ok tt → Good (answered s x)
 unfolding answered good4
 answered_good s x lent sixteen g more e =
     let row = vector_row s.n x lent e in
@@ -196,7 +199,7 @@ answered_good s x lent sixteen g more e =
       jacobian = g.jacobian;
       answers =
           clear-answered s.n s.count x s.answers sixteen
-          (both_true (clear s.n x) lent (unfold condition vector_tests in row 1)).0 g.answers;
+          (both_true (clear s.n x) lent (unfold condition vector_tests in row Why.Places)).0 g.answers;
       scheme = g.scheme;
       history = g.history;
       count = le-leb (s.count + 1) (wanted_by s) (omega arith);
@@ -207,7 +210,7 @@ answered_good s x lent sixteen g more e =
       derivative-finite = g.derivative-finite;
       previous_finite = g.previous_finite;
       jacobian_finite = g.jacobian_finite;
-      answers-finite = finite-answered s.n s.count x s.answers sixteen (unfold condition vector_tests in row 3) g.answers-finite;
+      answers-finite = finite-answered s.n s.count x s.answers sixteen (unfold condition vector_tests in row Why.NotFinite) g.answers-finite;
     }
 
 -- a run at rest: what is asked of its fields
@@ -286,7 +289,7 @@ module _ (s : Session) (g : List Float) (good : Good s) (G : Whole s.n g) where
   kept_allowed false e = good.history
 
 pub moved_good : (s : Session) (time : Float) (x f g : List Float) → Good s → finite time ≡ true → Whole s.n x → Whole s.n g
-    → fault (vector_tests s.n f true) ≡ 0 → Good (moved s time x f g)
+    → tested (vector_tests s.n f true) ≡ Ok tt → Good (moved s time x f g)
 unfolding moved
 moved_good s time x f g good t X G e =
     let row = vector_row s.n f true e in
@@ -294,62 +297,62 @@ moved_good s time x f g good t X G e =
       size = good.size;
       absolute = good.absolute;
       state = vector_clear X.vector;
-      derivative = (both_true (clear s.n f) true (unfold condition vector_tests in row 1)).0;
+      derivative = (both_true (clear s.n f) true (unfold condition vector_tests in row Why.Places)).0;
       previous = kept_clear s g good G (eqb s.scheme etd2_number);
       scheme = good.scheme;
       history = kept_allowed s g good G (eqb s.scheme etd2_number) refl;
       tolerances = good.tolerances;
       time_finite = t;
       state_finite = X.numbers;
-      derivative-finite = unfold condition vector_tests in row 3;
+      derivative-finite = unfold condition vector_tests in row Why.NotFinite;
       previous_finite = kept_finite s g good G (eqb s.scheme etd2_number);
     })
 
 -- ---- a call that is accepted
 
 -- a refusal has a number
-not_refused : {A : Type 0} (j : ℕ) → number (Refused (suc j)) ≡ 0 → A
+not_refused : {A : Type 0} (why : Refusal) → number (Err why) ≡ 0 → A
 unfolding number values_of
-not_refused j e = absurd (omega (arith, e))
+not_refused why e = some_number why e
 
 -- what is shown of an attempt whose session is good
 shown_good : (old s : Session) (o : List Float) (p : Progress) → Good s → number (shown old s o p).told.answer ≡ 0 → Good (shown old s o p).told.session
 unfolding shown
-shown_good old s o refused g e = not_refused 5 e
+shown_good old s o refused g e = not_refused Why.Arithmetic e
 shown_good old s o (asking x t) g e = g
 shown_good old s o (ended x d h w) g e = g
 
 settled_good : (s : Session) (f : List Float) (p : Progress) → Good s → ((x e g : List Float) (w : Work) → p ≡ ended x e g w → Wholes s.n x e g)
-    → fault (vector_tests s.n f true) ≡ 0 → number (settled s f p).answer ≡ 0 → Good (settled s f p).session
+    → tested (vector_tests s.n f true) ≡ Ok tt → number (settled s f p).answer ≡ 0 → Good (settled s f p).session
 unfolding settled arrived
-settled_good s f refused g w v e = not_refused 5 e
-settled_good s f (asking x t) g w v e = not_refused 5 e
+settled_good s f refused g w v e = not_refused Why.Arithmetic e
+settled_good s f (asking x t) g w v e = not_refused Why.Arithmetic e
 settled_good s f (ended x d h work) g w v e = go (finite (s.time ⊕ s.step)) refl e
   where
     k : Wholes s.n x d h
     k = w x d h work refl
 
-    go : (b : Bool) → finite (s.time ⊕ s.step) ≡ b → number (cond b (tell Resting (moved s (s.time ⊕ s.step) x f h)) (refuse s 6)).answer ≡ 0
-        → Good (cond b (tell Resting (moved s (s.time ⊕ s.step) x f h)) (refuse s 6)).session
+    go : (b : Bool) → finite (s.time ⊕ s.step) ≡ b → number (cond b (tell Resting (moved s (s.time ⊕ s.step) x f h)) (refuse s Why.Arithmetic)).answer ≡ 0
+        → Good (cond b (tell Resting (moved s (s.time ⊕ s.step) x f h)) (refuse s Why.Arithmetic)).session
     go true t e = moved_good s (s.time ⊕ s.step) x f h g t k.candidate k.nonlinear v
-    go false t e = not_refused 5 e
+    go false t e = not_refused Why.Arithmetic e
 
-told_good : (k : ℕ) (s : Session) (r : Told) → (k ≡ 0 → number r.answer ≡ 0 → Good r.session) → number (unless k (refuse s) r).answer ≡ 0 → Good (unless k (refuse s) r).session
+told_good : (k : Result ⊤ Refusal) (s : Session) (r : Told) → (k ≡ Ok tt → number r.answer ≡ 0 → Good r.session) → number (unless k (refuse s) r).answer ≡ 0 → Good (unless k (refuse s) r).session
 told_good k s r h = unless_either k (refuse s) r (λ r. number r.answer ≡ 0 → Good r.session) (λ j e. not_refused j e) h
 
-lent_good : (k : ℕ) (s : Session) (o : List Float) (r : Outcome) → (k ≡ 0 → number r.told.answer ≡ 0 → Good r.told.session)
+lent_good : (k : Result ⊤ Refusal) (s : Session) (o : List Float) (r : Outcome) → (k ≡ Ok tt → number r.told.answer ≡ 0 → Good r.told.session)
     → number (unless k (refuse_lent s o) r).told.answer ≡ 0 → Good (unless k (refuse_lent s o) r).told.session
 lent_good k s o r h = unless_either k (refuse_lent s o) r (λ r. number r.told.answer ≡ 0 → Good r.told.session) (λ j e. not_refused j e) h
 
 open_good : (r : Run) → number (open_call r).answer ≡ 0 → Good (open_call r).session
 unfolding open_call
-open_good r = told_good (fault (session_tests Any (opened r))) nothing (tell Resting (opened r)) (λ e _. passed_good Any (opened r) e)
+open_good r = told_good (tested (session_tests Any (opened r))) nothing (tell Resting (opened r)) (λ e _. passed_good Any (opened r) e)
 
 begin_good : (s : Session) (step : Float) (w : Wish) (j o : List Float) → number (begin_call s step w j o).told.answer ≡ 0 → Good (begin_call s step w j o).told.session
 unfolding begin_call
 begin_good s step w j o =
     let next = begun s step (attempt_of w) j in
-    lent_good (fault (begin_tests s step (attempt_of w) j (length o))) s o (shown s next o (progress next)) (λ e.
+    lent_good (tested (begin_tests s step (attempt_of w) j (length o))) s o (shown s next o (progress next)) (λ e.
     let p = begin_passes s step (attempt_of w) j (length o) e in
     shown_good s next o (progress next) (begun_good s step w j (length o) (passed_good (Only Rest) s p.0) p.1))
 
@@ -357,7 +360,7 @@ supply_good : (s : Session) (x o : List Float) → length x ≡ places → numbe
 unfolding supply_call
 supply_good s x o sixteen =
     let next = answered s x in
-    lent_good (fault (supply_tests s x (length o))) s o (shown s next o (progress next)) (λ e.
+    lent_good (tested (supply_tests s x (length o))) s o (shown s next o (progress next)) (λ e.
     let p = supply_passes s x (length o) e in
     shown_good s next o (progress next)
     (answered_good s x (eqb (length o) s.n) sixteen (passed_good (Only Asking) s p.0) (wants_more s p.0) p.1))
@@ -365,17 +368,17 @@ supply_good s x o sixteen =
 accept_good : (s : Session) (f : List Float) → number (accept_call s f).answer ≡ 0 → Good (accept_call s f).session
 unfolding accept_call
 accept_good s f =
-    told_good (fault (accept_tests s f)) s (settled s f (progress s)) (λ e.
+    told_good (tested (accept_tests s f)) s (settled s f (progress s)) (λ e.
     let p = accept_passes s f e in
-    settled_good s f (progress s) (passed_good (Only Waiting) s p.0) (ended_whole s (fault_none (Only Waiting) s p.0).small) p.1)
+    settled_good s f (progress s) (passed_good (Only Waiting) s p.0) (ended_whole s (passed_sound (Only Waiting) s p.0).small) p.1)
 
 drop_good : (s : Session) → number (drop_call s).answer ≡ 0 → Good (drop_call s).session
 unfolding drop_call
-drop_good s = told_good (fault (session_tests Any s)) s (tell Resting (rested s)) (λ e _. rested_good s (passed_good Any s e))
+drop_good s = told_good (tested (session_tests Any s)) s (tell Resting (rested s)) (λ e _. rested_good s (passed_good Any s e))
 
 first_good : (s : Session) (largest : Float) → number (first_step_call s largest).answer ≡ 0 → Good (first_step_call s largest).session
 unfolding first_step_call
-first_good s largest = told_good (fault (first_step_tests s largest)) s _ (λ e _. passed_good Any s (first_step_passes s largest e))
+first_good s largest = told_good (tested (first_step_tests s largest)) s _ (λ e _. passed_good Any s (first_step_passes s largest e))
 
 performed_good : (c : Call) (s : Session) → TypedCall c → number (perform c s).told.answer ≡ 0 → Good (perform c s).told.session
 unfolding perform TypedCall

@@ -13,17 +13,19 @@ use Rattle.evaluation.specs.Evaluation.{all_finite}
 use Rattle.methods.specs.Step.{questions, Progress, refused, asking, ended}
 use Rattle.methods.proofs.Shape.{asks_early, ends_late}
 use Rattle.engine.specs.Engine.{perturbed, jacobian_entry, column_ok}
+use Rattle.std.specs.Prelude.{Ok, Result, ⊤}
+use Rattle.session.specs.declared.Refusal.{Refusal}
 use Rattle.session.specs.declared.Session.{Session}
 use Rattle.session.specs.declared.Attempt.{Attempt}
 use Rattle.session.specs.declared.Attempt.TheVariants.{None, Supplied, Differenced}
 use Rattle.session.specs.declared.Phase.TheVariants.{Rest, Asking, Waiting}
 use Rattle.session.specs.declared.Wants.TheVariants.{Only}
-use Rattle.session.specs.Tests.{fault, unless}
+use Rattle.session.specs.Tests.{tested, unless}
 use Rattle.session.specs.Session.{wanted, wanted_by, phase_with, phase_at, phase_of, phase_number, session_tests, Sound, point_of, stepped, question, differencing, progress_of, progress}
 use Rattle.session.specs.Calls.{Outcome, refuse_lent, begun, answered, ready_of, shown, attempt_of, begin_tests, supply_tests, begin_call, supply_call}
 use Rattle.session.specs.Claims.{CountedBy, Counted, Counts}
 use Rattle.session.proofs.Tests.{unless_either}
-use Rattle.session.proofs.Laws.{fault_none, in_phase, begin_passes, supply_passes, wants_more, begun_sound, answered_sound}
+use Rattle.session.proofs.Laws.{passed_sound, in_phase, begin_passes, supply_passes, wants_more, begun_sound, answered_sound}
 
 -- what the answers of an attempt lead to: a question while fewer than `most` are there, an end from then on
 CountedAt : Progress → ℕ → ℕ → Type 0
@@ -85,7 +87,7 @@ shown_counted old s o (ended x e g w) m h = omega arith
 sound_counted : (old s : Session) (o : List Float) → Sound s → Counted (shown old s o (progress s)).told
 sound_counted old s o r = shown_counted old s o (progress s) r.enough (progress_counted s r.small)
 
-call_counted : (k : ℕ) (s : Session) (o : List Float) (r : Outcome) → (k ≡ 0 → Counted r.told) → Counted (unless k (refuse_lent s o) r).told
+call_counted : (k : Result ⊤ Refusal) (s : Session) (o : List Float) (r : Outcome) → (k ≡ Ok tt → Counted r.told) → Counted (unless k (refuse_lent s o) r).told
 call_counted k s o r h = unless_either k (refuse_lent s o) r (λ r. Counted r.told) (λ j. unfold Counted CountedBy in tt) h
 
 waiting_all : (a : Attempt) (b : Bool) → 2 ≡ phase_number (phase_at a b) → b ≡ false
@@ -97,10 +99,10 @@ waiting_all Differenced true e = absurd (omega (arith, e))
 waiting_all Differenced false e = refl
 
 -- a session that accept takes has all its answers
-pub never_asking : (s : Session) → fault (session_tests (Only Waiting) s) ≡ 0 → (x : List Float) (t : Float) → progress s ≡ asking x t → ⊥
+pub never_asking : (s : Session) → tested (session_tests (Only Waiting) s) ≡ Ok tt → (x : List Float) (t : Float) → progress s ≡ asking x t → ⊥
 never_asking s e x t p =
     let full = ltb-false s.count (wanted_by s) (waiting_all s.attempt _ (unfold phase_of phase_number in in_phase Waiting s e)) in
-    let less : s.count < wanted_by s = unfold CountedAt in subst (λ q. CountedAt q s.count (wanted_by s)) p (progress_counted s (fault_none (Only Waiting) s e).small) in
+    let less : s.count < wanted_by s = unfold CountedAt in subst (λ q. CountedAt q s.count (wanted_by s)) p (progress_counted s (passed_sound (Only Waiting) s e).small) in
     omega (arith, full, less)
 
 -- ---- THE CLAIM
@@ -109,13 +111,13 @@ unfolding begin_call supply_call
 counts = record {
   begin = λ s step wish jacobian out.
       let next = begun s step (attempt_of wish) jacobian in
-      call_counted (fault (begin_tests s step (attempt_of wish) jacobian _)) s out _ (λ e.
+      call_counted (tested (begin_tests s step (attempt_of wish) jacobian _)) s out _ (λ e.
       let p = begin_passes s step (attempt_of wish) jacobian _ e in
-      sound_counted s next out (begun_sound s step wish jacobian (fault_none (Only Rest) s p.0)));
+      sound_counted s next out (begun_sound s step wish jacobian (passed_sound (Only Rest) s p.0)));
   supply = λ s answer out.
       let next = answered s answer in
-      call_counted (fault (supply_tests s answer _)) s out _ (λ e.
+      call_counted (tested (supply_tests s answer _)) s out _ (λ e.
       let p = supply_passes s answer _ e in
-      sound_counted s next out (answered_sound s answer (fault_none (Only Asking) s p.0) (wants_more s p.0)));
+      sound_counted s next out (answered_sound s answer (passed_sound (Only Asking) s p.0) (wants_more s p.0)));
   accept = never_asking;
 }

@@ -15,16 +15,20 @@ use Rattle.evaluation.specs.Sizes.{answer_room}
 use Rattle.methods.specs.Step.{Progress, refused, asking, ended}
 use Rattle.engine.specs.Claims.{Between}
 use Rattle.engine.proofs.FirstStep.{first_step_told}
+use Rattle.std.specs.Prelude.{Ok, Result, Err, ⊤}
+use Rattle.session.specs.declared.Refusal.{Refusal}
+use Rattle.session.specs.declared.Refusal.TheVariants as Why
 use Rattle.session.specs.declared.Session.{Session}
 use Rattle.session.specs.declared.Told.{Told}
-use Rattle.session.specs.declared.Answer.TheVariants.{Resting, FirstStep, Refused}
+use Rattle.session.specs.declared.Answer.{Answer}
+use Rattle.session.specs.declared.Answer.TheVariants.{Resting, FirstStep}
 use Rattle.session.specs.declared.Attempt.{Attempt}
 use Rattle.session.specs.declared.Attempt.TheVariants.{None, Supplied, Differenced}
 use Rattle.session.specs.declared.Wish.{Wish}
 use Rattle.session.specs.declared.Phase.TheVariants.{Rest, Asking, Waiting}
 use Rattle.session.specs.declared.Wants.{Wants}
 use Rattle.session.specs.declared.Wants.TheVariants.{Any, Only}
-use Rattle.session.specs.Tests.{Tests, fault, condition, numbered, unless}
+use Rattle.session.specs.Tests.{Tests, tested, condition, unless}
 use Rattle.session.specs.Values.{number, values_of}
 use Rattle.session.specs.Session.{jacobian_room, Trial, joined, run_of, trial_of, fresh, idle, clear, clear_answers, used_jacobian, step_clear, wanted, wanted_by}
 use Rattle.session.specs.Session.{phase_with, phase_at, phase_of, phase_number, admits, size_ok, good1, good7, session_tests, progress}
@@ -32,8 +36,8 @@ use Rattle.session.specs.Calls.{Outcome, tell, refuse, refuse_lent, opened, noth
 use Rattle.session.specs.Calls.{begin_tests, supply_tests, accept_tests, first_step_tests, largest_tests, begin_call, supply_call, accept_call, drop_call, first_step_call}
 use Rattle.session.specs.Runs.{Call, begin, supply, accept, drop, first_step, perform, after}
 use Rattle.session.specs.Claims.{Typed, TypedCall, TypedCalls, Closed, supplies, Drops, FirstSteps}
-use Rattle.session.proofs.Tests.{passes, fault-append, both_pass, unless_either}
-use Rattle.session.proofs.Laws.{in_phase, session_numbered}
+use Rattle.session.proofs.Tests.{passes, tested-append, both_pass, unless_either}
+use Rattle.session.proofs.Laws.{in_phase}
 use Rattle.session.proofs.Clear.{plus_zero_is, nothing_in}
 use Rattle.session.proofs.Closed.{Good, passed_good, good_closed, after_good}
 
@@ -65,7 +69,7 @@ none_answers : (n : ℕ) (x : List Float) → clear_answers 0 n x ≡ true → (
 unfolding clear_answers
 none_answers n x e i l = rw (leb-suc-zero (i / 16)) at (every_at (length x) _ e i l)
 
-pub idle_trial : (s : Session) → Typed s → fault (session_tests (Only Rest) s) ≡ 0 → trial_of s ≡ idle
+pub idle_trial : (s : Session) → Typed s → tested (session_tests (Only Rest) s) ≡ Ok tt → trial_of s ≡ idle
 unfolding idle fresh
 idle_trial s t e =
     let g = passed_good (Only Rest) s e in
@@ -78,14 +82,14 @@ idle_trial s t e =
     nothing_in answer_room s.answers t.answers (λ i l. none_answers s.n s.answers (rw count at g.answers) i (omega (arith, t.answers.places))) in
     λ i. record { attempt = none i; step = step i; jacobian = jacobian i; count = count i; answers = answers i }
 
-pub rested_same : (s : Session) → Typed s → fault (session_tests (Only Rest) s) ≡ 0 → rested s ≡ s
+pub rested_same : (s : Session) → Typed s → tested (session_tests (Only Rest) s) ≡ Ok tt → rested s ≡ s
 unfolding rested opened
 rested_same s t e = ap (joined (run_of s)) (sym (idle_trial s t e))
 
 -- ---- drop, where nothing is wrong with the session
 dropped : (s : Session) → Good s → drop_call s ≡ tell Resting (rested s)
 unfolding drop_call unless
-dropped s g = let e : fault (session_tests Any s) ≡ 0 = unfold Closed good7 admits in good_closed g Any in rw e
+dropped s g = let e : tested (session_tests Any s) ≡ Ok tt = unfold Closed good7 admits in good_closed g Any in rw e
 
 -- ---- the run stays as it was
 
@@ -103,14 +107,14 @@ shown-run old s o (ended x d g w) e = e
 supply_run : (s : Session) (x o : List Float) → run_of (supply_call s x o).told.session ≡ run_of s
 unfolding supply_call
 supply_run s x o =
-    unless_either (fault (supply_tests s x (length o))) (refuse_lent s o) _ (λ r. run_of r.told.session ≡ run_of s) (λ j. refl)
+    unless_either (tested (supply_tests s x (length o))) (refuse_lent s o) _ (λ r. run_of r.told.session ≡ run_of s) (λ j. refl)
     (λ _. shown-run s (answered s x) o (progress (answered s x)) (answered-run s x))
 
 begin_run : (s : Session) (step : Float) (w : Wish) (j o : List Float) → run_of (begin_call s step w j o).told.session ≡ run_of s
 unfolding begin_call
 begin_run s step w j o =
     let next = begun s step (attempt_of w) j in
-    unless_either (fault (begin_tests s step (attempt_of w) j (length o))) (refuse_lent s o) _ (λ r. run_of r.told.session ≡ run_of s) (λ k. refl)
+    unless_either (tested (begin_tests s step (attempt_of w) j (length o))) (refuse_lent s o) _ (λ r. run_of r.told.session ≡ run_of s) (λ k. refl)
     (λ _. shown-run s next o (progress next) (unfold begun in refl))
 
 supplies-run : (answers : List (List Float × List Float)) (s : Session) → run_of (after s (supplies answers)) ≡ run_of s
@@ -119,23 +123,23 @@ supplies-run [] s = refl
 supplies-run ((x, o) ∷ rest) s = supplies-run rest (supply_call s x o).told.session ∙ supply_run s x o
 
 -- ---- the session of a refused open: its dimension is 0
-pub nothing-fault : (wants : Wants) → fault (session_tests wants nothing) ≡ 1
-unfolding fault session_tests good1 size_ok nothing opened
-nothing-fault wants = refl
+pub nothing-tested : (wants : Wants) → tested (session_tests wants nothing) ≡ Err Why.Places
+unfolding tested session_tests good1 size_ok nothing opened
+nothing-tested wants = refl
 
-pub nothing_then : (wants : Wants) (handed : Tests) → fault (session_tests wants nothing ++ handed) ≡ 1
+pub nothing_then : (wants : Wants) (handed : Tests) → tested (session_tests wants nothing ++ handed) ≡ Err Why.Places
 unfolding unless
-nothing_then wants handed = rw (fault-append (session_tests wants nothing) handed (session_numbered wants nothing), nothing-fault wants)
+nothing_then wants handed = rw (tested-append (session_tests wants nothing) handed, nothing-tested wants)
 
-refused_one : number (Refused 1) ≡ 1
+refused_one : number (Err Why.Places) ≡ 1
 unfolding number values_of
 refused_one = refl
 
-told_one : (k : ℕ) (r : Told) → k ≡ 1 → number (unless k (refuse nothing) r).answer ≡ 1
+told_one : (k : Result ⊤ Refusal) (r : Told) → k ≡ Err Why.Places → number (unless k (refuse nothing) r).answer ≡ 1
 unfolding unless
 told_one k r e = rw e refused_one
 
-lent_one : (k : ℕ) (o : List Float) (r : Outcome) → k ≡ 1 → number (unless k (refuse_lent nothing o) r).told.answer ≡ 1
+lent_one : (k : Result ⊤ Refusal) (o : List Float) (r : Outcome) → k ≡ Err Why.Places → number (unless k (refuse_lent nothing o) r).told.answer ≡ 1
 unfolding unless
 lent_one k o r e = rw e refused_one
 
@@ -144,7 +148,7 @@ unfolding perform begin_call supply_call accept_call drop_call first_step_call b
 nothing_one (begin step w j o) = lent_one _ o _ (nothing_then (Only Rest) _)
 nothing_one (supply x o) = lent_one _ o _ (nothing_then (Only Asking) _)
 nothing_one (accept f) = told_one _ _ (nothing_then (Only Waiting) _)
-nothing_one drop = told_one _ _ (nothing-fault Any)
+nothing_one drop = told_one _ _ (nothing-tested Any)
 nothing_one (first_step largest) = told_one _ _ (nothing_then Any _)
 
 same_rest : (s t : Session) → run_of s ≡ run_of t → rested s ≡ rested t
@@ -166,18 +170,18 @@ drops = record {
 
 -- ---- the first step
 
-largest_row : (largest : Float) → fault (largest_tests largest) ≡ 0 → le epsilon largest ≡ true
-largest_row largest e = unfold condition largest_tests in passes (largest_tests largest) (unfold numbered largest_tests in refl) e 5
+largest_row : (largest : Float) → tested (largest_tests largest) ≡ Ok tt → le epsilon largest ≡ true
+largest_row largest e = unfold condition largest_tests in passes (largest_tests largest) e Why.Step
 
-no_step : {A : Type 0} (k : ℕ) (step : Float) → Refused k ≡ FirstStep step → A
-no_step k step e = let z : ◌≡◌ {A = ℕ} 0 1 = cc in absurd (omega (arith, z))
+no_step : {A : Type 0} (why : Refusal) (step : Float) → ◌≡◌ {A = Result Answer Refusal} (Err why) (Ok (FirstStep step)) → A
+no_step why step e = cc
 
-same_step : (x y : Float) → FirstStep x ≡ FirstStep y → x ≡ y
+same_step : (x y : Float) → ◌≡◌ {A = Result Answer Refusal} (Ok (FirstStep x)) (Ok (FirstStep y)) → x ≡ y
 same_step x y e = cc
 
 pub first_steps_lem : FirstSteps
 unfolding FirstSteps first_step_call first_step_tests
 first_steps_lem s largest step =
-    unless_either (fault (first_step_tests s largest)) (refuse s) _ (λ r. r.answer ≡ FirstStep step → Between largest step) (λ j. no_step (suc j) step) (λ e f.
+    unless_either (tested (first_step_tests s largest)) (refuse s) _ (λ r. r.answer ≡ Ok (FirstStep step) → Between largest step) (λ why. no_step why step) (λ e f.
     first_step_told s.n s.relative s.absolute s.state s.derivative largest step
-    (largest_row largest (both_pass (session_tests Any s) (largest_tests largest) (session_numbered Any s) e).1) (same_step _ step f))
+    (largest_row largest (both_pass (session_tests Any s) (largest_tests largest) e).1) (same_step _ step f))

@@ -6,11 +6,12 @@ use native.Mathlib.Omega.{arith}
 use mathlib.Core.Path.{◌≡◌, refl, sym, ap, ◌∙◌}
 use mathlib.Core.List.{List, [], ◌∷◌, ◌++◌, append_assoc}
 use lib.Ieee.{Float, nan}
-use lib.ListN.{length, set, drop, get_or, length-append, length-drop, get_or-append}
-use lib.Seq.{ext_get_or, get_or-append-add, set-get_or}
+use lib.ListN.{length, set, take, drop, get_or, replicate, length-append, length-drop, length-replicate, get_or-append, get_or-replicate, take-append-drop}
+use lib.Seq.{ext_get_or, get_or-append-add, set-get_or, length-take-le}
+use borrow.Rule.Slice.PartMut.{put_mid}
 use Rattle.loops.specs.Loop.{tab, from, fill, stores, ◌!◌}
 use Rattle.loops.proofs.Loops.{length-tab, get_or-tab, tab_at, fill_none, fill_step, stores_none}
-use Rattle.loops.proofs.Stores.{is_tab, stores-suc}
+use Rattle.loops.proofs.Stores.{is_tab, stores-suc, stores_ext}
 use Rattle.evaluation.specs.Sizes.{places, answer_room}
 use Rattle.session.specs.declared.Session.{Session}
 use Rattle.session.specs.declared.Head.{Head}
@@ -59,6 +60,23 @@ stored_after x p l b (suc n) e h =
 placed : (x p l : List Float) (b n : ℕ) → length p ≡ b → n ≤ length l → stored x b n (p ++ l) ≡ (p ++ first n x) ++ drop n l
 unfolding fill first
 placed x p l b n e h = stored_after x p l b n e h ∙ sym (append_assoc p (tab n (λ i. x ! i)) (drop n l))
+
+-- a part of a list with all of v in its place
+pub put_in : (v x : List Float) (at n : ℕ) → n ≡ length v → at + n ≤ length x → put_mid at n x v ≡ stores (λ i _. v ! i) at (length v) x
+unfolding first
+put_in v x at n e h =
+    ap (λ (k : ℕ). put_mid at k x v) e
+    ∙ ap (λ (l : List Float). take at x ++ (l ++ drop (length v) (drop at x))) (spelt nan (length v) v refl)
+    ∙ sym (append_assoc (take at x) (first (length v) v) (drop (length v) (drop at x)))
+    ∙ sym (placed v (take at x) (drop at x) at (length v) (length-take-le at x (omega arith)) (omega (arith, length-drop at x)))
+    ∙ ap (λ (l : List Float). stored v at (length v) l) (take-append-drop at x)
+
+-- with n times y
+pub put_each : (y : Float) (x : List Float) (at n k : ℕ) → n ≡ k → at + n ≤ length x → put_mid at n x (replicate k y) ≡ stores (λ _ _. y) at k x
+put_each y x at n k e h =
+    put_in (replicate k y) x at n (e ∙ sym (length-replicate k y)) h
+    ∙ ap (λ (m : ℕ). stored (replicate k y) at m x) (length-replicate k y)
+    ∙ stores_ext _ _ at k x (λ j l v. get_or-replicate k j y nan l)
 
 -- ---- arrays one behind the other
 

@@ -6,11 +6,12 @@ use lib.Ieee.{Float}
 use lib.ListN.{length}
 use Rattle.float.specs.Arith.{◌⊕◌, finite}
 use Rattle.methods.specs.Step.{Progress, refused, asking, ended}
+use Rattle.session.specs.declared.Refusal.TheVariants as Why
 use Rattle.session.specs.declared.Session.{Session}
 use Rattle.session.specs.declared.Told.{Told}
 use Rattle.session.specs.declared.Answer.TheVariants.{Resting}
 use Rattle.session.specs.declared.Wish.{Wish}
-use Rattle.session.specs.Tests.{fault}
+use Rattle.session.specs.Tests.{tested}
 use Rattle.session.specs.Values.{values_of, figured, is_refused}
 use Rattle.session.specs.Session.{progress}
 use Rattle.session.specs.Calls.{tell, refuse, refuse_lent, shown, ready_of, settled, arrived, begin_tests, supply_tests, accept_tests, attempt_of, rested}
@@ -22,7 +23,7 @@ module _ (s : Session) where
   abbrev pub Same : Told → Type 0
   Same t = is_refused t.answer ≡ true → t.session ≡ s
 
-  moved_same : (b : Bool) (next : Session) → Same (cond b (tell Resting next) (refuse s 6))
+  moved_same : (b : Bool) (next : Session) → Same (cond b (tell Resting next) (refuse s Why.Arithmetic))
   unfolding is_refused values_of figured
   moved_same true next e = absurd (false≢true e)
   moved_same false next e = refl
@@ -45,7 +46,7 @@ module _ (s : Session) where
 
   pub accept_same : (d : List Float) → Same (accept_call s d)
   unfolding accept_call
-  accept_same d = unless_either (fault (accept_tests s d)) (refuse s) _ Same (λ j e. refl) (λ _. settled_same d (progress s))
+  accept_same d = unless_either (tested (accept_tests s d)) (refuse s) _ Same (λ j e. refl) (λ _. settled_same d (progress s))
 
   pub drop_same : Same (drop_call s)
   unfolding drop_call is_refused values_of figured
@@ -54,9 +55,9 @@ module _ (s : Session) where
   pub begin_same : (step : Float) (w : Wish) (j out : List Float) → Same (begin_call s step w j out).told
   unfolding begin_call
   begin_same step w j out =
-      unless_either (fault (begin_tests s step (attempt_of w) j (length out))) (refuse_lent s out) _ (λ o. Same o.told) (λ j e. refl) (λ _. shown_same _ out _)
+      unless_either (tested (begin_tests s step (attempt_of w) j (length out))) (refuse_lent s out) _ (λ o. Same o.told) (λ j e. refl) (λ _. shown_same _ out _)
 
   pub supply_same : (x out : List Float) → Same (supply_call s x out).told
   unfolding supply_call
   supply_same x out =
-      unless_either (fault (supply_tests s x (length out))) (refuse_lent s out) _ (λ o. Same o.told) (λ j e. refl) (λ _. shown_same _ out _)
+      unless_either (tested (supply_tests s x (length out))) (refuse_lent s out) _ (λ o. Same o.told) (λ j e. refl) (λ _. shown_same _ out _)

@@ -1,7 +1,10 @@
 -- What follows from tests that passed, and what is told of an attempt. Assumes nothing.
 use Rattle.loops.proofs.Bools.{both_true}
-use Rattle.methods.specs.Step.{Progress, progress as reached, progress_kind}
-use Rattle.session.specs.Tests.{Tests, fault, condition, numbered, unless}
+use Rattle.methods.specs.Step.{Progress, progress as reached}
+use Rattle.std.specs.Prelude.{Result, Ok, Err, ⊤}
+use Rattle.session.specs.declared.Refusal.{Refusal}
+use Rattle.session.specs.declared.Refusal.TheVariants as Why
+use Rattle.session.specs.Tests.{Tests, tested, condition, unless}
 use Rattle.session.specs.Session.{schemes, largest, Run, joined, trial_of, fresh, wanted, wanted_by, phase_with, phase_at, phase_of, phase_number, admits, size_ok, run_places, attempt_places}
 use Rattle.float.specs.Arith.{finite}
 use Rattle.evaluation.specs.Evaluation.{all_finite}
@@ -12,10 +15,13 @@ use Rattle.methods.specs.Vectors.{Sized}
 use Rattle.matrix.specs.declared.Reach.{Reach}
 use Rattle.matrix.specs.Matrix.{admitted, exponential, reach}
 use Rattle.matrix.specs.Calls.{Filled as Raised}
-use Rattle.methods.proofs.Laws.{reach_ok}
+use Rattle.methods.specs.declared.Action.{Action}
+use Rattle.methods.specs.Tally.{Tried}
+use Rattle.methods.specs.Parts.{taken, made}
+use Rattle.methods.proofs.Made.{taken_is, untaken}
 use Rattle.session.specs.Bare.{bare, refuse_bare, exponential_tests, phi_tests, norm_tests}
-use Rattle.session.specs.Calls.{outcome, tell, refuse, opened, nothing, open_call, begun, answered, attempt_of, vector_tests, attempt_tests, begin_tests, supply_tests}
-use Rattle.session.specs.Calls.{accept_tests, first_step_tests, shown, arrived, settled, answer_of}
+use Rattle.session.specs.Calls.{outcome, tell, refuse, refuse_lent, begun, answered, attempt_of, vector_tests, attempt_tests, begin_tests, supply_tests}
+use Rattle.session.specs.Calls.{accept_tests, first_step_tests, shown, arrived, settled, ready_of}
 use Prim.Native.Nat.{ℕ, ◌+◌, ◌*◌, ◌≤◌, ◌<◌}
 use mathlib.Core.Path.{◌≡◌, refl, sym, ◌∙◌}
 use mathlib.Core.Bool.{Bool, true, false, cond, ◌&&◌, false≢true}
@@ -27,14 +33,14 @@ use lib.ListN.{length}
 use borrow.Author.Tests.{leb-true, ltb-true, eqb-true}
 use Rattle.loops.specs.Loop.{tab, ◌!◌}
 use native.Mathlib.Nat.{mul-le-mul}
-use Rattle.methods.specs.declared.Kind.{Kind}
+use Rattle.std.specs.Prelude.{Option, Some, None}
 use Rattle.methods.specs.declared.StepResult.{StepResult}
 use Rattle.methods.specs.declared.Work.{Work}
-use Rattle.methods.specs.declared.Kind.TheVariants.{Question, Done}
+use Rattle.methods.specs.declared.StepResult.TheVariants.{Question, Done}
 use Rattle.session.specs.declared.Session.{Session}
 use Rattle.session.specs.declared.Told.{Told}
 use Rattle.session.specs.declared.Answer.{Answer}
-use Rattle.session.specs.declared.Answer.TheVariants.{Resting, Filled, Refused}
+use Rattle.session.specs.declared.Answer.TheVariants.{Ask, Resting, Filled}
 use Rattle.session.specs.declared.Attempt.{Attempt}
 use Rattle.session.specs.declared.Attempt.TheVariants.{None, Supplied, Differenced}
 use Rattle.session.specs.declared.Phase.{Phase}
@@ -42,7 +48,7 @@ use Rattle.session.specs.declared.Phase.TheVariants.{Rest, Asking, Waiting}
 use Rattle.session.specs.declared.Wants.{Wants}
 use Rattle.session.specs.declared.Wants.TheVariants.{Any, Only}
 use Rattle.session.specs.declared.Wish.{Wish}
-use Rattle.session.proofs.Tests.{passes, both_pass, fault-append, unless_refused}
+use Rattle.session.proofs.Tests.{passes, both_pass, tested-append}
 
 pub wanted-small : (k n : ℕ) (a : Attempt) → n ≤ 16 → wanted k n a ≤ answers_kept
 unfolding wanted
@@ -79,23 +85,19 @@ good3_state s e =
 
 -- ---- sessions that are not refused
 
-pub session_numbered : (wants : Wants) (s : Session) → numbered (session_tests wants s) ≡ true
-unfolding numbered session_tests
-session_numbered wants s = refl
+-- the row of a refusal
+pub session_row : (wants : Wants) (s : Session) → tested (session_tests wants s) ≡ Ok tt → (why : Refusal) → condition why (session_tests wants s) ≡ true
+session_row wants s e = passes (session_tests wants s) e
 
--- the row of a number
-pub session_row : (wants : Wants) (s : Session) → fault (session_tests wants s) ≡ 0 → (k : ℕ) → condition k (session_tests wants s) ≡ true
-session_row wants s e = passes (session_tests wants s) (session_numbered wants s) e
+pub passed_sound : (wants : Wants) (s : Session) → tested (session_tests wants s) ≡ Ok tt → Sound s
+passed_sound wants s e =
+    let n = good1_size s (unfold condition session_tests in session_row wants s e Why.Places) in
+    let m = good2_parts s (unfold condition session_tests in session_row wants s e Why.Scheme) in
+    record { some = n.0; small = n.1; scheme = m.0; enough = m.1; calm = good3_state s (unfold condition session_tests in session_row wants s e Why.NotFinite) }
 
-pub fault_none : (wants : Wants) (s : Session) → fault (session_tests wants s) ≡ 0 → Sound s
-fault_none wants s e =
-    let n = good1_size s (unfold condition session_tests in session_row wants s e 1) in
-    let m = good2_parts s (unfold condition session_tests in session_row wants s e 2) in
-    record { some = n.0; small = n.1; scheme = m.0; enough = m.1; calm = good3_state s (unfold condition session_tests in session_row wants s e 3) }
-
-pub in_phase : (phase : Phase) (s : Session) → fault (session_tests (Only phase) s) ≡ 0 → phase_number phase ≡ phase_number (phase_of s)
+pub in_phase : (phase : Phase) (s : Session) → tested (session_tests (Only phase) s) ≡ Ok tt → phase_number phase ≡ phase_number (phase_of s)
 in_phase phase s e =
-    eqb-true (phase_number phase) (phase_number (phase_of s)) (unfold condition session_tests good7 admits in session_row (Only phase) s e 7)
+    eqb-true (phase_number phase) (phase_number (phase_of s)) (unfold condition session_tests good7 admits in session_row (Only phase) s e Why.Phase)
 
 asking_more : (a : Attempt) (b : Bool) → 1 ≡ phase_number (phase_at a b) → b ≡ true
 unfolding phase_at phase_with phase_number
@@ -106,74 +108,58 @@ asking_more Differenced true e = refl
 asking_more Differenced false e = absurd (omega (arith, e))
 
 -- a session that asks wants an answer more
-pub wants_more : (s : Session) → fault (session_tests (Only Asking) s) ≡ 0 → s.count < wanted_by s
+pub wants_more : (s : Session) → tested (session_tests (Only Asking) s) ≡ Ok tt → s.count < wanted_by s
 wants_more s e = ltb-true s.count (wanted_by s) (asking_more s.attempt _ (unfold phase_of phase_number in in_phase Asking s e))
 
-pub few_answers : (s : Session) → fault (session_tests (Only Asking) s) ≡ 0 → s.count < answers_kept
-few_answers s e = omega (arith, wants_more s e, wanted-small s.scheme s.n s.attempt (fault_none (Only Asking) s e).small)
+pub few_answers : (s : Session) → tested (session_tests (Only Asking) s) ≡ Ok tt → s.count < answers_kept
+few_answers s e = omega (arith, wants_more s e, wanted-small s.scheme s.n s.attempt (passed_sound (Only Asking) s e).small)
 
 -- what is handed in is tested where the session passes
-pub session_then : (wants : Wants) (s : Session) (handed : Tests) {k m : ℕ} → k ≡ fault (session_tests wants s) → k ≡ 0 → m ≡ fault handed
-    → m ≡ fault (session_tests wants s ++ handed)
+pub session_then : (wants : Wants) (s : Session) (handed : Tests) {k m : Result ⊤ Refusal} → k ≡ tested (session_tests wants s) → k ≡ Ok tt → m ≡ tested handed
+    → m ≡ tested (session_tests wants s ++ handed)
 unfolding unless
-session_then wants s handed e z f = rw (fault-append (session_tests wants s) handed (session_numbered wants s), ← e, z) f
+session_then wants s handed e z f = rw (tested-append (session_tests wants s) handed, ← e, z) f
 
-pub session_fails : (wants : Wants) (s : Session) (handed : Tests) {k : ℕ} → k ≡ fault (session_tests wants s) → (k ≡ 0 → ⊥)
-    → k ≡ fault (session_tests wants s ++ handed)
-session_fails wants s handed {k} e h =
-    rw (fault-append (session_tests wants s) handed (session_numbered wants s), ← e) (unless_refused k (λ j. j) (fault handed) h)
+pub session_fails : (wants : Wants) (s : Session) (handed : Tests) {k : Result ⊤ Refusal} {why : Refusal} → k ≡ tested (session_tests wants s) → k ≡ Err why
+    → Err why ≡ tested (session_tests wants s ++ handed)
+unfolding unless
+session_fails wants s handed e z = rw (tested-append (session_tests wants s) handed, ← e, z)
 
 -- ---- calls that are not refused
 
-pub begin_passes : (s : Session) (h : Float) (a : Attempt) (j : List Float) (lent : ℕ) → fault (begin_tests s h a j lent) ≡ 0
-    → (fault (session_tests (Only Rest) s) ≡ 0) × (fault (attempt_tests s.n h a j lent) ≡ 0)
+pub begin_passes : (s : Session) (h : Float) (a : Attempt) (j : List Float) (lent : ℕ) → tested (begin_tests s h a j lent) ≡ Ok tt
+    → (tested (session_tests (Only Rest) s) ≡ Ok tt) × (tested (attempt_tests s.n h a j lent) ≡ Ok tt)
 unfolding begin_tests
-begin_passes s h a j lent e = both_pass (session_tests (Only Rest) s) _ (session_numbered (Only Rest) s) e
+begin_passes s h a j lent e = both_pass (session_tests (Only Rest) s) _ e
 
-pub supply_passes : (s : Session) (x : List Float) (lent : ℕ) → fault (supply_tests s x lent) ≡ 0
-    → (fault (session_tests (Only Asking) s) ≡ 0) × (fault (vector_tests s.n x (eqb lent s.n)) ≡ 0)
+pub supply_passes : (s : Session) (x : List Float) (lent : ℕ) → tested (supply_tests s x lent) ≡ Ok tt
+    → (tested (session_tests (Only Asking) s) ≡ Ok tt) × (tested (vector_tests s.n x (eqb lent s.n)) ≡ Ok tt)
 unfolding supply_tests
-supply_passes s x lent e = both_pass (session_tests (Only Asking) s) _ (session_numbered (Only Asking) s) e
+supply_passes s x lent e = both_pass (session_tests (Only Asking) s) _ e
 
-pub accept_passes : (s : Session) (x : List Float) → fault (accept_tests s x) ≡ 0
-    → (fault (session_tests (Only Waiting) s) ≡ 0) × (fault (vector_tests s.n x true) ≡ 0)
+pub accept_passes : (s : Session) (x : List Float) → tested (accept_tests s x) ≡ Ok tt
+    → (tested (session_tests (Only Waiting) s) ≡ Ok tt) × (tested (vector_tests s.n x true) ≡ Ok tt)
 unfolding accept_tests
-accept_passes s x e = both_pass (session_tests (Only Waiting) s) _ (session_numbered (Only Waiting) s) e
+accept_passes s x e = both_pass (session_tests (Only Waiting) s) _ e
 
-pub first_step_passes : (s : Session) (largest : Float) → fault (first_step_tests s largest) ≡ 0 → fault (session_tests Any s) ≡ 0
+pub first_step_passes : (s : Session) (largest : Float) → tested (first_step_tests s largest) ≡ Ok tt → tested (session_tests Any s) ≡ Ok tt
 unfolding first_step_tests
-first_step_passes s largest e = (both_pass (session_tests Any s) _ (session_numbered Any s) e).0
+first_step_passes s largest e = (both_pass (session_tests Any s) _ e).0
 
-pub attempt_row : (n : ℕ) (h : Float) (a : Attempt) (j : List Float) (lent : ℕ) → fault (attempt_tests n h a j lent) ≡ 0
-    → (k : ℕ) → condition k (attempt_tests n h a j lent) ≡ true
-attempt_row n h a j lent e = passes (attempt_tests n h a j lent) (unfold numbered attempt_tests in refl) e
+pub attempt_row : (n : ℕ) (h : Float) (a : Attempt) (j : List Float) (lent : ℕ) → tested (attempt_tests n h a j lent) ≡ Ok tt
+    → (why : Refusal) → condition why (attempt_tests n h a j lent) ≡ true
+attempt_row n h a j lent e = passes (attempt_tests n h a j lent) e
 
-pub vector_row : (n : ℕ) (x : List Float) (lent : Bool) → fault (vector_tests n x lent) ≡ 0 → (k : ℕ) → condition k (vector_tests n x lent) ≡ true
-vector_row n x lent e = passes (vector_tests n x lent) (unfold numbered vector_tests in refl) e
+pub vector_row : (n : ℕ) (x : List Float) (lent : Bool) → tested (vector_tests n x lent) ≡ Ok tt → (why : Refusal) → condition why (vector_tests n x lent) ≡ true
+vector_row n x lent e = passes (vector_tests n x lent) e
 
-pub begin_length : (n : ℕ) (h : Float) (a : Attempt) (j : List Float) (lent : ℕ) → fault (attempt_tests n h a j lent) ≡ 0 → lent ≡ n
+pub begin_length : (n : ℕ) (h : Float) (a : Attempt) (j : List Float) (lent : ℕ) → tested (attempt_tests n h a j lent) ≡ Ok tt → lent ≡ n
 begin_length n h a j lent e =
-    eqb-true lent n (both_true (clear (used_jacobian a n) j) (eqb lent n) (unfold condition attempt_tests in attempt_row n h a j lent e 1)).1
+    eqb-true lent n (both_true (clear (used_jacobian a n) j) (eqb lent n) (unfold condition attempt_tests in attempt_row n h a j lent e Why.Places)).1
 
-pub vector_length : (n : ℕ) (x : List Float) (lent : ℕ) → fault (vector_tests n x (eqb lent n)) ≡ 0 → lent ≡ n
+pub vector_length : (n : ℕ) (x : List Float) (lent : ℕ) → tested (vector_tests n x (eqb lent n)) ≡ Ok tt → lent ≡ n
 vector_length n x lent e =
-    eqb-true lent n (both_true (clear n x) (eqb lent n) (unfold condition vector_tests in vector_row n x (eqb lent n) e 1)).1
-
--- open works from what a refused one returns
-module _ (r : Run) (none : Session) (e : none ≡ nothing) where
-  from_nothing : joined r (trial_of none) ≡ opened r
-  unfolding nothing opened
-  from_nothing = rw e
-
-  pub open_ok : {k : ℕ} (t : Told) → k ≡ fault (session_tests Any (joined r (trial_of none))) → k ≡ 0 → t ≡ tell Resting (joined r (trial_of none)) → t ≡ open_call r
-  unfolding open_call unless
-  open_ok t f z g = let h = rw from_nothing at f in rw (← h, z, g, from_nothing)
-
-  pub open_refused : {k : ℕ} (t : Told) → k ≡ fault (session_tests Any (joined r (trial_of none))) → (k ≡ 0 → ⊥) → t ≡ refuse none k → t ≡ open_call r
-  unfolding open_call
-  open_refused {k} t f z g =
-      let h = rw from_nothing at f in
-      rw (← h, g, e) (unless_refused k (refuse nothing) (tell Resting (opened r)) z)
+    eqb-true lent n (both_true (clear n x) (eqb lent n) (unfold condition vector_tests in vector_row n x (eqb lent n) e Why.Places)).1
 
 pub begun_sound : (s : Session) (h : Float) (w : Wish) (j : List Float) → Sound s → Sound (begun s h (attempt_of w) j)
 unfolding begun fresh
@@ -184,34 +170,32 @@ unfolding answered
 answered_sound s x r h = record { some = r.some; small = r.small; scheme = r.scheme; enough = omega arith; calm = r.calm }
 
 -- ---- what is shown of a pass, from what the code knows of it
-show_kind : (old s : Session) (o : List Float) (k : Kind) (x e g : List Float) (w : Work)
-    → outcome (tell (answer_of s k x e w) s) (tab s.n (λ i. x ! i)) ≡ shown old s o (progress_kind k x e g w)
-unfolding answer_of shown progress_kind
-show_kind old s o (Question t) x e g w = refl
-show_kind old s o Done x e g w = refl
-
-module _ (old s : Session) (o o' : List Float) (w : StepResult) (p : Progress) (v : reached w ≡ p) where
-  pub show_bad : w.ok ≡ false → o' ≡ cond w.ok (tab (length o) (λ i. w.state ! i)) o → outcome (refuse old 6) o' ≡ shown old s o p
+module _ (old s : Session) (o o' : List Float) (p : Progress) where
+  pub show_none : reached None ≡ p → refuse_lent old o Why.Arithmetic ≡ shown old s o p
   unfolding shown reached
-  show_bad e c = rw (← v, c, e)
+  show_none v = rw (← v) refl
 
-  pub show_ok : (a : Answer) → w.ok ≡ true → length o ≡ s.n → o' ≡ cond w.ok (tab (length o) (λ i. w.state ! i)) o → a ≡ answer_of s w.kind w.state w.error w.work
+  pub show_question : (x : List Float) (t : Float) → reached (Some (Question x t)) ≡ p → length o ≡ s.n → o' ≡ tab (length o) (λ i. x ! i) → outcome (tell (Ask t) s) o' ≡ shown old s o p
+  unfolding shown reached
+  show_question x t v l c = rw (← v, c, l) refl
+
+  pub show_done : (x e g : List Float) (w : Work) (a : Answer) → reached (Some (Done x e g w)) ≡ p → length o ≡ s.n → o' ≡ tab (length o) (λ i. x ! i) → a ≡ ready_of s x e w
       → outcome (tell a s) o' ≡ shown old s o p
-  unfolding reached
-  show_ok a e l c h = rw (← v, h, c, e, l) (show_kind old s o w.kind w.state w.error w.nonlinear w.work)
+  unfolding shown reached
+  show_done x e g w a v l c h = rw (← v, c, l, h) refl
 
-module _ (s : Session) (f : List Float) (w : StepResult) (p : Progress) (v : reached w ≡ p) where
-  pub settle_bad : (r : Told) → r ≡ refuse s 6 → w.ok ≡ false → r ≡ settled s f p
+module _ (s : Session) (f : List Float) (p : Progress) (r : Told) where
+  pub settle_none : reached None ≡ p → r ≡ refuse s Why.Arithmetic → r ≡ settled s f p
   unfolding settled reached
-  settle_bad r h e = rw (← v, e, h)
+  settle_none v h = rw (← v) h
 
-  pub settle_ask : (t : Float) (r : Told) → r ≡ refuse s 6 → w.ok ≡ true → w.kind ≡ Question t → r ≡ settled s f p
-  unfolding settled reached progress_kind
-  settle_ask t r h e k = rw (← v, e, k, h)
+  pub settle_question : (x : List Float) (t : Float) → reached (Some (Question x t)) ≡ p → r ≡ refuse s Why.Arithmetic → r ≡ settled s f p
+  unfolding settled reached
+  settle_question x t v h = rw (← v) h
 
-  pub settle_done : (r : Told) → w.ok ≡ true → w.kind ≡ Done → r ≡ arrived s w.state f w.nonlinear → r ≡ settled s f p
-  unfolding settled reached progress_kind
-  settle_done r e k m = rw (← v, e, k) m
+  pub settle_done : (x e g : List Float) (w : Work) → reached (Some (Done x e g w)) ≡ p → r ≡ arrived s x f g → r ≡ settled s f p
+  unfolding settled reached
+  settle_done x e g w v h = rw (← v) h
 
 pub supplied_few : (s : Session) → Sound s → s.attempt ≡ Supplied → s.count ≤ 4
 unfolding wanted
@@ -234,26 +218,48 @@ size20 n e = leb-true n 20 (both_true (leb 1 n) (leb n 20) e).1
 pub order_size : (n : ℕ) (b c : Bool) → (leb 1 n && leb n 16 && b && c) ≡ true → n ≤ 16
 order_size n b c e = (size_both n (both_true (leb 1 n && leb n 16) b (both_true (leb 1 n && leb n 16 && b) c e).0).0).1
 
-pub exponential_sized : (size : ℕ) (m : List Float) (lent : ℕ) → fault (exponential_tests size m lent) ≡ 0 → (size ≤ 20) × ((length m ≡ size * size) × (lent ≡ size * size))
+pub exponential_sized : (size : ℕ) (m : List Float) (lent : ℕ) → tested (exponential_tests size m lent) ≡ Ok tt → (size ≤ 20) × ((length m ≡ size * size) × (lent ≡ size * size))
 exponential_sized size m lent e =
     let p = both_true (leb 1 size && leb size 20) (eqb (length m) (size * size) && eqb lent (size * size))
-    (unfold condition exponential_tests in passes (exponential_tests size m lent) (unfold numbered exponential_tests in refl) e 1) in
+    (unfold condition exponential_tests in passes (exponential_tests size m lent) e Why.Places) in
     let q = both_true (eqb (length m) (size * size)) (eqb lent (size * size)) p.1 in
     (size20 size p.0, (eqb-true (length m) (size * size) q.0, eqb-true lent (size * size) q.1))
 
 -- what is told of an exponential, from what matrix_exp leaves
-module _ (m m' o out : List Float) (n : ℕ) (r : Reach) (f : Raised m n m' o out r) where
-  is_admitted : (b : Bool) → r.ok ≡ b → admitted m n ≡ b
-  is_admitted b e = sym (reach_ok m n) ∙ (rw f.told at e)
-
-  pub filled_is : r.ok ≡ true
-      → bare (Filled r.terms r.squarings) out ≡ cond (admitted m n) (bare (Filled (exponential m n).terms (exponential m n).squarings) (exponential m n).entries) (refuse_bare o 6)
+module _ (m m' o out : List Float) (n : ℕ) where
+  pub filled_is : (k : Reach) → Raised m n m' o out (Some k)
+      → bare (Ok (Filled k.terms k.squarings)) out ≡ cond (admitted m n) (bare (Ok (Filled (exponential m n).terms (exponential m n).squarings)) (exponential m n).entries) (refuse_bare o Why.Arithmetic)
   unfolding reach
-  filled_is e = rw (f.told, f.output, is_admitted true e)
+  filled_is k f = go (admitted m n) f.told f.output
+    where
+      go : (b : Bool) → Some k ≡ cond {A = Option Reach} b (Some (record { terms = (exponential m n).terms; squarings = (exponential m n).squarings })) None
+          → out ≡ cond b (exponential m n).entries o
+          → bare (Ok (Filled k.terms k.squarings)) out ≡ cond b (bare (Ok (Filled (exponential m n).terms (exponential m n).squarings)) (exponential m n).entries) (refuse_bare o Why.Arithmetic)
+      go true e h =
+          let q : ◌≡◌ {A = Reach} k (record { terms = (exponential m n).terms; squarings = (exponential m n).squarings }) = cc in
+          rw (q, h) refl
+      go false e h = cc
 
-  pub unfilled_is : r.ok ≡ false
-      → bare (Refused 6) out ≡ cond (admitted m n) (bare (Filled (exponential m n).terms (exponential m n).squarings) (exponential m n).entries) (refuse_bare o 6)
-  unfilled_is e = rw (f.output, is_admitted false e)
+  pub unfilled_is : Raised m n m' o out None
+      → bare (Err Why.Arithmetic) out ≡ cond (admitted m n) (bare (Ok (Filled (exponential m n).terms (exponential m n).squarings)) (exponential m n).entries) (refuse_bare o Why.Arithmetic)
+  unfolding reach
+  unfilled_is f = go (admitted m n) f.told f.output
+    where
+      go : (b : Bool) → None ≡ cond {A = Option Reach} b (Some (record { terms = (exponential m n).terms; squarings = (exponential m n).squarings })) None
+          → out ≡ cond b (exponential m n).entries o
+          → bare (Err Why.Arithmetic) out ≡ cond b (bare (Ok (Filled (exponential m n).terms (exponential m n).squarings)) (exponential m n).entries) (refuse_bare o Why.Arithmetic)
+      go true e h = cc
+      go false e h = rw h refl
+
+-- what is told of a phi action
+module _ (p : Tried) (o out : List Float) (n : ℕ) where
+  pub acted_is : (k : Action) → Some k ≡ made p → out ≡ tab n (λ i. k.v ! i)
+      → bare (Ok (Filled k.tally.terms k.tally.squarings)) out ≡ cond p.tally.ok (bare (Ok (Filled p.tally.terms p.tally.squarings)) (tab n (λ i. p.v ! i))) (refuse_bare o Why.Arithmetic)
+  acted_is k e h = let q : taken k ≡ p = taken_is k p e in rw (← q, h) refl
+
+  pub unacted_is : None ≡ made p
+      → bare (Err Why.Arithmetic) o ≡ cond p.tally.ok (bare (Ok (Filled p.tally.terms p.tally.squarings)) (tab n (λ i. p.v ! i))) (refuse_bare o Why.Arithmetic)
+  unacted_is e = rw (untaken p e) refl
 
 -- what a phi action that is not refused has
 pub record Acted (n order : ℕ) (a input : List Float) (lent : ℕ) : Type 0 where
@@ -263,11 +269,11 @@ pub record Acted (n order : ℕ) (a input : List Float) (lent : ℕ) : Type 0 wh
   pub inputs : length input ≡ n
   pub places : lent ≡ n
 
-pub phi_sized : (n order : ℕ) (scaleA : Float) (a input : List Float) (lent : ℕ) → fault (phi_tests n order scaleA a input lent) ≡ 0 → Acted n order a input lent
+pub phi_sized : (n order : ℕ) (scaleA : Float) (a input : List Float) (lent : ℕ) → tested (phi_tests n order scaleA a input lent) ≡ Ok tt → Acted n order a input lent
 unfolding size_ok
 phi_sized n order scaleA a input lent e =
     let p = both_true (leb 1 n && leb n 16 && leb 1 order && leb order 4) (eqb (length a) (n * n) && eqb (length input) n && eqb lent n)
-    (unfold condition phi_tests in passes (phi_tests n order scaleA a input lent) (unfold numbered phi_tests in refl) e 1) in
+    (unfold condition phi_tests in passes (phi_tests n order scaleA a input lent) e Why.Places) in
     let q = both_true (leb 1 n && leb n 16 && leb 1 order) (leb order 4) p.0 in
     let r = both_true (leb 1 n && leb n 16) (leb 1 order) q.0 in
     let s = size_both n r.0 in
@@ -281,11 +287,11 @@ phi_sized n order scaleA a input lent e =
       places = eqb-true lent n t.1;
     }
 
-pub norm_sized : (n : ℕ) (relative : Float) (absolute error state candidate : List Float) → fault (norm_tests n relative absolute error state candidate) ≡ 0 → (1 ≤ n) × (n ≤ 16)
+pub norm_sized : (n : ℕ) (relative : Float) (absolute error state candidate : List Float) → tested (norm_tests n relative absolute error state candidate) ≡ Ok tt → (1 ≤ n) × (n ≤ 16)
 unfolding size_ok
 norm_sized n relative absolute error state candidate e =
     let p = both_true (leb 1 n && leb n 16 && clear n absolute && clear n error && clear n state) (clear n candidate)
-    (unfold condition norm_tests in passes (norm_tests n relative absolute error state candidate) (unfold numbered norm_tests in refl) e 1) in
+    (unfold condition norm_tests in passes (norm_tests n relative absolute error state candidate) e Why.Places) in
     let q = both_true (leb 1 n && leb n 16 && clear n absolute && clear n error) (clear n state) p.0 in
     let t = both_true (leb 1 n && leb n 16 && clear n absolute) (clear n error) q.0 in
     size_both n (both_true (leb 1 n && leb n 16) (clear n absolute) t.0).0

@@ -18,19 +18,22 @@ use Rattle.methods.specs.declared.Work.{Work}
 use Rattle.methods.specs.Step.{Progress, refused, asking, ended}
 use Rattle.engine.specs.Engine.{error_norm}
 use Rattle.engine.proofs.Norm.{norm-number}
+use Rattle.std.specs.Prelude.{Ok, Result, Err, ⊤}
+use Rattle.session.specs.declared.Refusal.{Refusal}
+use Rattle.session.specs.declared.Refusal.TheVariants as Why
 use Rattle.session.specs.declared.Session.{Session}
 use Rattle.session.specs.declared.Answer.{Answer}
-use Rattle.session.specs.declared.Answer.TheVariants.{Ask, Ready, Resting, FirstStep, Filled, Norm, Refused}
+use Rattle.session.specs.declared.Answer.TheVariants.{Ask, Ready, Resting, FirstStep, Filled, Norm}
 use Rattle.session.specs.declared.Phase.TheVariants.{Rest, Asking}
 use Rattle.session.specs.declared.Wants.{Wants}
 use Rattle.session.specs.declared.Wants.TheVariants.{Only}
-use Rattle.session.specs.Tests.{fault, condition, numbered, unless}
+use Rattle.session.specs.Tests.{tested, condition, unless}
 use Rattle.session.specs.Session.{Run, run_of, positive, tolerances_ok, good4, session_tests, progress}
 use Rattle.session.specs.Calls.{Outcome, refuse_lent, begun, answered, attempt_of, has_error, ready_of, shown, begin_tests, supply_tests, begin_call, supply_call}
 use Rattle.session.specs.Bare.{norm_tests, norm_call}
 use Rattle.session.specs.Claims.{Typed, Norms}
 use Rattle.session.proofs.Tests.{passes, unless_either}
-use Rattle.session.proofs.Laws.{norm_sized, fault_none, begin_passes, supply_passes}
+use Rattle.session.proofs.Laws.{norm_sized, passed_sound, begin_passes, supply_passes}
 use Rattle.session.proofs.Closed.{passed_good}
 use Rattle.session.proofs.Ends.{Wholes, ended_whole}
 
@@ -70,10 +73,10 @@ record Measured (s : Session) : Type 0 where
   double : (i : ℕ) → T (fits binary64 (s.absolute ! i))
   state : Numbers s.state
 
-measured : (wants : Wants) (s : Session) → Typed s → fault (session_tests wants s) ≡ 0 → Measured s
+measured : (wants : Wants) (s : Session) → Typed s → tested (session_tests wants s) ≡ Ok tt → Measured s
 measured wants s t e =
     let g = passed_good wants s e in
-    let n = fault_none wants s e in
+    let n = passed_sound wants s e in
     let p = positive_all s.n s.relative s.absolute (unfold good4 in g.tolerances) in
     record {
       some = n.some;
@@ -92,14 +95,14 @@ norm_of s m x e g w =
     (number_at e (record { places = w.error.vector.places; finite = w.error.numbers }) s.n m.small)
 
 -- ---- answers whose norm is no NaN
-Number : Answer → Type 0
-Number (Ask time) = Unit
-Number (Ready norm rhs jacobians products) = is_nan norm ≡ false
-Number Resting = Unit
-Number (FirstStep step) = Unit
-Number (Filled terms squarings) = Unit
-Number (Norm norm) = is_nan norm ≡ false
-Number (Refused k) = Unit
+Number : Result Answer Refusal → Type 0
+Number (Ok (Ask time)) = Unit
+Number (Ok (Ready norm rhs jacobians products)) = is_nan norm ≡ false
+Number (Ok Resting) = Unit
+Number (Ok (FirstStep step)) = Unit
+Number (Ok (Filled terms squarings)) = Unit
+Number (Ok (Norm norm)) = is_nan norm ≡ false
+Number (Err why) = Unit
 
 shown-number : (old s : Session) (o : List Float) (p : Progress) → Measured s → ((x e g : List Float) (w : Work) → p ≡ ended x e g w → Wholes s.n x e g)
     → Number (shown old s o p).told.answer
@@ -116,13 +119,13 @@ shown-number old s o (ended x e g w) m f = go (has_error s.scheme)
 attempt_number_lem : (old s : Session) (o : List Float) → Measured s → Number (shown old s o (progress s)).told.answer
 attempt_number_lem old s o m = shown-number old s o (progress s) m (ended_whole s m.small)
 
-call_number : (k : ℕ) (s : Session) (o : List Float) (r : Outcome) → (k ≡ 0 → Number r.told.answer) → Number (unless k (refuse_lent s o) r).told.answer
+call_number : (k : Result ⊤ Refusal) (s : Session) (o : List Float) (r : Outcome) → (k ≡ Ok tt → Number r.told.answer) → Number (unless k (refuse_lent s o) r).told.answer
 call_number k s o r h = unless_either k (refuse_lent s o) r (λ r. Number r.told.answer) (λ j. unfold Number in tt) h
 
-ready_number : (a : Answer) → Number a → (norm : Float) (rhs jacobians products : ℕ) → a ≡ Ready norm rhs jacobians products → is_nan norm ≡ false
+ready_number : (a : Result Answer Refusal) → Number a → (norm : Float) (rhs jacobians products : ℕ) → a ≡ Ok (Ready norm rhs jacobians products) → is_nan norm ≡ false
 ready_number a h norm rhs jacobians products e = unfold Number in subst Number e h
 
-told_number : (a : Answer) → Number a → (norm : Float) → a ≡ Norm norm → is_nan norm ≡ false
+told_number : (a : Result Answer Refusal) → Number a → (norm : Float) → a ≡ Ok (Norm norm) → is_nan norm ≡ false
 told_number a h norm e = unfold Number in subst Number e h
 
 -- what is measured is the run's
@@ -138,12 +141,12 @@ run_measured s t e m = record {
 
 bare-number : (n : ℕ) (relative : Float) (absolute error state candidate : List Float) → ((i : ℕ) → T (fits binary64 (absolute ! i)))
     → length error ≡ 16 → length state ≡ 16 → length candidate ≡ 16
-    → fault (norm_tests n relative absolute error state candidate) ≡ 0 → is_nan (error_norm n relative absolute state candidate error) ≡ false
+    → tested (norm_tests n relative absolute error state candidate) ≡ Ok tt → is_nan (error_norm n relative absolute state candidate error) ≡ false
 bare-number n relative absolute error state candidate f le ls lc h =
-    let row = passes (norm_tests n relative absolute error state candidate) (unfold numbered norm_tests in refl) h in
+    let row = passes (norm_tests n relative absolute error state candidate) h in
     let z = norm_sized n relative absolute error state candidate h in
-    let t = positive_all n relative absolute (unfold condition norm_tests in row 4) in
-    let v = both_true (all_finite error && all_finite state) (all_finite candidate) (unfold condition norm_tests in row 3) in
+    let t = positive_all n relative absolute (unfold condition norm_tests in row Why.Tolerance) in
+    let v = both_true (all_finite error && all_finite state) (all_finite candidate) (unfold condition norm_tests in row Why.NotFinite) in
     let w = both_true (all_finite error) (all_finite state) v.0 in
     norm-number relative state candidate error t.0 absolute n z.0 z.1 t.1 f
     (number_at state (record { places = ls; finite = w.1 }) n z.1)
@@ -156,14 +159,14 @@ unfolding begin_call supply_call norm_call
 norms = record {
   begin = λ s step wish jacobian out t.
       let next = begun s step (attempt_of wish) jacobian in
-      ready_number _ (call_number (fault (begin_tests s step (attempt_of wish) jacobian (length out))) s out (shown s next out (progress next)) (λ e.
+      ready_number _ (call_number (tested (begin_tests s step (attempt_of wish) jacobian (length out))) s out (shown s next out (progress next)) (λ e.
       attempt_number_lem s next out (run_measured s next (unfold begun in refl) (measured (Only Rest) s t (begin_passes s step (attempt_of wish) jacobian (length out) e).0))));
   supply = λ s answer out t.
       let next = answered s answer in
-      ready_number _ (call_number (fault (supply_tests s answer (length out))) s out (shown s next out (progress next)) (λ e.
+      ready_number _ (call_number (tested (supply_tests s answer (length out))) s out (shown s next out (progress next)) (λ e.
       attempt_number_lem s next out (run_measured s next (unfold answered in refl) (measured (Only Asking) s t (supply_passes s answer (length out) e).0))));
   bare = λ n relative absolute error state candidate f le ls lc.
       told_number _
-      (unless_either (fault (norm_tests n relative absolute error state candidate)) Refused (Norm (error_norm n relative absolute state candidate error)) Number
+      (unless_either (tested (norm_tests n relative absolute error state candidate)) Err (Ok (Norm (error_norm n relative absolute state candidate error))) Number
       (λ j. unfold Number in tt) (λ h. unfold Number in bare-number n relative absolute error state candidate f le ls lc h));
 }

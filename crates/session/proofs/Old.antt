@@ -20,13 +20,15 @@ use Rattle.matrix.specs.Vector.{vec}
 use Rattle.matrix.proofs.Vectors.{length-vec, vec_at}
 use Rattle.engine.specs.Claims.{Equal}
 use Rattle.engine.proofs.Equal.{equal_tolerances}
+use Rattle.std.specs.Prelude.{Ok, Result, Err, ⊤}
+use Rattle.session.specs.declared.Refusal.{Refusal}
 use Rattle.session.specs.declared.Head.{Head}
 use Rattle.session.specs.declared.OldSession.{OldSession}
 use Rattle.session.specs.declared.Session.{Session}
 use Rattle.session.specs.declared.Phase.TheVariants.{Rest, Asking, Waiting}
 use Rattle.session.specs.declared.Wants.{Wants}
 use Rattle.session.specs.declared.Wants.TheVariants.{Any, Only}
-use Rattle.session.specs.Tests.{Tests, fault, unless}
+use Rattle.session.specs.Tests.{Tests, refusal_number, tested, unless}
 use Rattle.session.specs.Values.{values_of, number}
 use Rattle.session.specs.Session.{jacobian_room, clear, size_ok, run_places, attempt_places, good1, good2, phase_of, good7, positive, tolerances_ok, good4, good3, session_tests}
 use Rattle.session.specs.Figures.{FIGURES, time_at, step_at, relative_at, absolute_at, state_at, derivative_at, previous_at, jacobian_at, answers_at, part, session_of, figures_of}
@@ -38,7 +40,6 @@ use Rattle.session.specs.Old.{copied, tolerating, brought_over, both_positive, o
 use Rattle.session.proofs.Clear.{zero_plus}
 use Rattle.session.proofs.Tolerances.{every_fails}
 use Rattle.session.proofs.Laws.{size_both, session_fails}
-use Rattle.session.proofs.Tests.{unless_refused}
 use Rattle.session.proofs.Parts.{length_part, part_at, is_part, slice_part, read_before, part_before, part_put}
 use Rattle.session.proofs.Inverse.{Long, session_back, figures_back}
 use Rattle.session.proofs.Writes.{by_fields}
@@ -108,35 +109,35 @@ module _ (wants : Wants) (o : OldSession) where
   unfolding good4 brought_over size_ok
   old_tolerances e = let s = size_both o.n e in tolerances_copied o.n o.relative o.absolute s.0 s.1
 
-  same_number : (b : Bool) → size_ok o.n ≡ b → fault (session_tests wants (brought_over o)) ≡ fault (old_tests wants o)
-  unfolding session_tests old_tests fault
+  same_number : (b : Bool) → size_ok o.n ≡ b → tested (session_tests wants (brought_over o)) ≡ tested (old_tests wants o)
+  unfolding session_tests old_tests tested
   same_number true e = rw (old_places, old_two, old_phase, old_numbers, old_tolerances e) (unfold brought_over in refl)
   same_number false e = rw (old_places, e)
 
 -- ---- a session that is refused: the call gives its number, whatever is handed in
 
-refused_number : {A : Type 0} (of : A → ℕ) (k : ℕ) (refuse : ℕ → A) (next : A) → ((j : ℕ) → of (refuse j) ≡ j) → (k ≡ 0 → ⊥) → of (unless k refuse next) ≡ k
-refused_number of k refuse next reads h = ap of (sym (unless_refused k refuse next h)) ∙ reads k
+refused_number : {A : Type 0} (of : A → ℕ) {k : Result ⊤ Refusal} {why : Refusal} (refuse : Refusal → A) (next : A) → ((j : Refusal) → of (refuse j) ≡ refusal_number j) → k ≡ Err why
+    → of (unless k refuse next) ≡ refusal_number why
+unfolding unless
+refused_number of refuse next reads e = rw e (reads _)
 
-tested-number : {A : Type 0} (of : A → ℕ) (wants : Wants) (s : Session) (handed : Tests) (refuse : ℕ → A) (next : A) → ((j : ℕ) → of (refuse j) ≡ j)
-    → (fault (session_tests wants s) ≡ 0 → ⊥) → of (unless (fault (session_tests wants s ++ handed)) refuse next) ≡ fault (session_tests wants s)
-tested-number of wants s handed refuse next reads h =
-    let e = session_fails wants s handed refl h in
-    refused_number of (fault (session_tests wants s ++ handed)) refuse next reads (λ z. h (e ∙ z)) ∙ sym e
+tested-number : {A : Type 0} (of : A → ℕ) (wants : Wants) (s : Session) (handed : Tests) (refuse : Refusal → A) (next : A) → ((j : Refusal) → of (refuse j) ≡ refusal_number j)
+    → {why : Refusal} → tested (session_tests wants s) ≡ Err why → of (unless (tested (session_tests wants s ++ handed)) refuse next) ≡ refusal_number why
+tested-number of wants s handed refuse next reads h = refused_number of refuse next reads (sym (session_fails wants s handed refl h))
 
-refused_call : (c : Call) (s : Session) → (fault (session_tests (wants_of c) s) ≡ 0 → ⊥) → number (perform c s).told.answer ≡ fault (session_tests (wants_of c) s)
+refused_call : (c : Call) (s : Session) (why : Refusal) → tested (session_tests (wants_of c) s) ≡ Err why → number (perform c s).told.answer ≡ refusal_number why
 unfolding wants_of perform number values_of begin_call begin_tests supply_call supply_tests accept_call accept_tests drop_call first_step_call first_step_tests
-refused_call (begin step wish jacobian out) s h = tested-number (λ r. number r.told.answer) (Only Rest) s _ (refuse_lent s out) _ (λ j. refl) h
-refused_call (supply answer out) s h = tested-number (λ r. number r.told.answer) (Only Asking) s _ (refuse_lent s out) _ (λ j. refl) h
-refused_call (accept derivative) s h = tested-number (λ r. number r.answer) (Only Waiting) s _ (refuse s) _ (λ j. refl) h
-refused_call dropping s h = refused_number (λ r. number r.answer) (fault (session_tests Any s)) (refuse s) _ (λ j. refl) h
-refused_call (first_step largest) s h = tested-number (λ r. number r.answer) Any s _ (refuse s) _ (λ j. refl) h
+refused_call (begin step wish jacobian out) s why h = tested-number (λ r. number r.told.answer) (Only Rest) s _ (refuse_lent s out) _ (λ j. refl) h
+refused_call (supply answer out) s why h = tested-number (λ r. number r.told.answer) (Only Asking) s _ (refuse_lent s out) _ (λ j. refl) h
+refused_call (accept derivative) s why h = tested-number (λ r. number r.answer) (Only Waiting) s _ (refuse s) _ (λ j. refl) h
+refused_call dropping s why h = refused_number (λ r. number r.answer) (refuse s) _ (λ j. refl) h
+refused_call (first_step largest) s why h = tested-number (λ r. number r.answer) Any s _ (refuse s) _ (λ j. refl) h
 
 -- ---- the bare error norm
 
 module _ (n : ℕ) (relative one : Float) (error state candidate : List Float) where
   same_norm : (b : Bool) → size_ok n ≡ b → norm_call n relative (copied n one) error state candidate ≡ old_norm_call n relative one error state candidate
-  unfolding norm_call old_norm_call norm_tests old_norm_tests fault unless
+  unfolding norm_call old_norm_call norm_tests old_norm_tests tested unless
   same_norm true e =
       let s : (1 ≤ n) × (n ≤ places) = unfold size_ok in size_both n e in
       rw (
@@ -151,9 +152,7 @@ module _ (n : ℕ) (relative one : Float) (error state candidate : List Float) w
 pub as_before : AsBefore
 as_before = record {
   judged = λ wants o. same_number wants o (size_ok o.n) refl;
-  next = λ c o h.
-      let e = same_number (wants_of c) o (size_ok o.n) refl in
-      refused_call c (brought_over o) (λ z. h (sym e ∙ z)) ∙ e;
+  next = λ c o why h. refused_call c (brought_over o) why (same_number (wants_of c) o (size_ok o.n) refl ∙ h);
   own = λ o i h l. unfold brought_over in own_at o.n o.absolute i h l;
   others = λ o i h l. unfold brought_over in other_at o.n o.absolute i h l;
   ready = λ s one equal candidate error work. unfold ready_of in rw (equal_tolerances.norm s.n s.relative one s.absolute equal s.state candidate error);

@@ -7,8 +7,11 @@ use lib.Ieee.{Float, of_bits}
 use Rattle.float.specs.Arith.{finite, plus_zero}
 use Rattle.evaluation.specs.Evaluation.{all_finite}
 use Rattle.evaluation.specs.Sizes.{answer_room}
+use Rattle.std.specs.Prelude.{Err, Result, ⊤}
+use Rattle.session.specs.declared.Refusal.{Refusal}
+use Rattle.session.specs.declared.Refusal.TheVariants as Why
 use Rattle.session.specs.declared.Wants.TheVariants.{Any}
-use Rattle.session.specs.Tests.{fault}
+use Rattle.session.specs.Tests.{tested}
 use Rattle.session.specs.Session.{Run, jacobian_room, fresh, idle, clear, used_history, used_jacobian, step_clear, size_ok, run_places, attempt_places}
 use Rattle.session.specs.Session.{good1, good2, good3, good4, good5, good7, admits, tolerances_ok, session_tests}
 use Rattle.loops.proofs.Bools.{both_true}
@@ -18,8 +21,8 @@ use Rattle.session.specs.Figures.{session_of}
 use Rattle.session.specs.Calls.{opened}
 use Rattle.session.proofs.Clear.{clear-zeros, clear-answers-zeros, finite-zeros}
 
--- two rows of one number are one row of both
-one_row : (a b : Bool) (next k : ℕ) → cond (cond a b false) next k ≡ cond a (cond b next k) k
+-- two rows of one refusal are one row of both
+one_row : (a b : Bool) (next k : Result ⊤ Refusal) → cond (cond a b false) next k ≡ cond a (cond b next k) k
 one_row true b next k = refl
 one_row false b next k = refl
 
@@ -57,11 +60,11 @@ module _ (r : Run) where
   no_step = refl
 
   -- the tests that are left
-  pub opening : fault (session_tests Any (opened r))
-      ≡ fault ((size_ok r.n, 1) ∷ (open_places, 1) ∷ (good2 (opened r), 2) ∷ (tolerances_ok r.n r.relative r.absolute, 4)
-      ∷ (finite r.time && all_finite r.state && all_finite r.derivative && all_finite r.previous, 3) ∷ [])
-  unfolding session_tests good7 admits fault
-  opening = rw (places, figures, tolerances, no_step) (one_row (size_ok r.n) open_places _ 1)
+  pub opening : tested (session_tests Any (opened r))
+      ≡ tested ((size_ok r.n, Why.Places) ∷ (open_places, Why.Places) ∷ (good2 (opened r), Why.Scheme) ∷ (tolerances_ok r.n r.relative r.absolute, Why.Tolerance)
+      ∷ (finite r.time && all_finite r.state && all_finite r.derivative && all_finite r.previous, Why.NotFinite) ∷ [])
+  unfolding session_tests good7 admits tested
+  opening = rw (places, figures, tolerances, no_step) (one_row (size_ok r.n) open_places _ (Err Why.Places))
 
 -- the test of 3 as the code makes it: the arrays first
 pub time_and_arrays : {t a b c t' a' b' c' : Bool} → t ≡ t' → a ≡ a' → b ≡ b' → c ≡ c' → (t && (a && b && c)) ≡ (t' && a' && b' && c')

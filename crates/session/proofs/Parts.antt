@@ -191,10 +191,9 @@ time_then k x {a} {b} e f =
     rw (t, f) (after_all (finite (session_of k x).time) _ _ _ _ _)
 
 -- the tests of 4 and of 5, from what the code reads
-pub run_tolerances : (k : Head) (x : List Float) {b : Bool} → length x ≡ FIGURES → b ≡ tolerances_ok k.n (x ! relative_at) (take places (drop absolute_at x))
-    → b ≡ good4 (session_of k x)
+pub run_tolerances : (k : Head) (x : List Float) {a : List Float} {b : Bool} → a ≡ part x absolute_at places → b ≡ tolerances_ok k.n (x ! relative_at) a → b ≡ good4 (session_of k x)
 unfolding good4 session_of
-run_tolerances k x l e = e ∙ ap (tolerances_ok k.n (x ! relative_at)) (slice_part x absolute_at places (omega arith))
+run_tolerances k x l e = e ∙ ap (tolerances_ok k.n (x ! relative_at)) l
 
 pub attempt_step : (k : Head) (x : List Float) {b : Bool} → b ≡ good5 k.attempt (x ! step_at) → b ≡ good5 (session_of k x).attempt (session_of k x).step
 unfolding session_of
@@ -227,28 +226,7 @@ module _ (k : Head) (x : List Float) (e : arrays_finite (session_of k x) ≡ tru
   answers_calm =
       (both_true (all_finite (session_of k x).state && all_finite (session_of k x).derivative && all_finite (session_of k x).previous && all_finite (session_of k x).jacobian) _ e).1
 
--- each array as a part of the lent figures
-module _ (k : Head) (x : List Float) (e : length x ≡ FIGURES) where
-  pub absolute_slice : take places (drop absolute_at x) ≡ (session_of k x).absolute
-  unfolding session_of
-  absolute_slice = slice_part x absolute_at places (omega arith)
-
-  pub state_slice : take places (drop state_at x) ≡ (session_of k x).state
-  unfolding session_of
-  state_slice = slice_part x state_at places (omega arith)
-
-  pub derivative_slice : take places (drop derivative_at x) ≡ (session_of k x).derivative
-  unfolding session_of
-  derivative_slice = slice_part x derivative_at places (omega arith)
-
-  pub previous_slice : take places (drop previous_at x) ≡ (session_of k x).previous
-  unfolding session_of
-  previous_slice = slice_part x previous_at places (omega arith)
-
-  pub jacobian_slice : take jacobian_room (drop jacobian_at x) ≡ (session_of k x).jacobian
-  unfolding session_of
-  jacobian_slice = slice_part x jacobian_at jacobian_room (omega arith)
-
-  pub answers_slice : take answer_room (drop answers_at x) ≡ (session_of k x).answers
-  unfolding session_of
-  answers_slice = slice_part x answers_at answer_room (omega arith)
+-- the Jacobian as a part of the lent figures
+pub jacobian_slice : (k : Head) (x : List Float) → length x ≡ FIGURES → take jacobian_room (drop jacobian_at x) ≡ (session_of k x).jacobian
+unfolding session_of
+jacobian_slice k x e = slice_part x jacobian_at jacobian_room (omega arith)

@@ -16,19 +16,24 @@ use Rattle.methods.specs.Shape.{Doubles}
 use Rattle.methods.specs.Step.{exponentials, Progress, refused, asking, ended}
 use Rattle.methods.proofs.Took.{phi_reach}
 use Rattle.methods.proofs.Shape.{at_most_34, step_work}
+use Rattle.std.specs.Prelude.{Result, Ok, Err, ⊤, IfSome, is_some}
+use Rattle.session.specs.declared.Refusal.{Refusal}
+use Rattle.session.specs.declared.Refusal.TheVariants as Why
 use Rattle.session.specs.declared.Session.{Session}
 use Rattle.session.specs.declared.Answer.{Answer}
-use Rattle.session.specs.declared.Answer.TheVariants.{Ask, Ready, Resting, FirstStep, Filled, Norm, Refused}
+use Rattle.session.specs.declared.Answer.TheVariants.{Ask, Ready, Resting, FirstStep, Filled, Norm}
 use Rattle.session.specs.declared.Phase.TheVariants.{Rest, Asking}
 use Rattle.session.specs.declared.Wants.TheVariants.{Only}
-use Rattle.session.specs.Tests.{fault, unless}
+use Rattle.session.specs.Tests.{tested, unless}
 use Rattle.session.specs.Values.{values_of, figured}
-use Rattle.session.specs.Session.{Run, run_of, is_held, point_of, stepped, progress}
+use Rattle.session.specs.Session.{Run, run_of, is_held, previous_of, point_of, stepped, progress}
+use Rattle.session.specs.declared.History.{History}
+use Rattle.session.specs.declared.History.TheVariants.{Missing, Held}
 use Rattle.session.specs.Calls.{Outcome, refuse_lent, begun, answered, attempt_of, ready_of, shown, begin_tests, supply_tests, begin_call, supply_call}
 use Rattle.session.specs.Bare.{bare, refuse_bare, exponential_tests, exponential_call, phi_tests, phi_call}
 use Rattle.session.specs.Claims.{Typed, exponentials_of, Products}
 use Rattle.session.proofs.Tests.{unless_either}
-use Rattle.session.proofs.Laws.{fault_none, begin_passes, supply_passes, exponential_sized, phi_sized}
+use Rattle.session.proofs.Laws.{passed_sound, begin_passes, supply_passes, exponential_sized, phi_sized}
 use Rattle.session.proofs.Ends.{progress_any}
 
 -- ---- where an attempt stands: at its end at most so many products
@@ -43,6 +48,17 @@ record Starts (s : Session) : Type 0 where
   slope : Doubles s.n s.derivative
   before : Doubles s.n s.previous
 
+-- a history that is kept
+past : (n : ℕ) (held : History) (previous : List Float) → Doubles n previous → IfSome (previous_of held previous) (Doubles n)
+unfolding previous_of
+past n Missing previous d = tt
+past n Held previous d = d
+
+exponentials_held : (k : ℕ) (held : History) (previous : List Float) → exponentials k (is_some (previous_of held previous)) ≡ exponentials k (is_held held)
+unfolding previous_of is_held
+exponentials_held k Missing previous = refl
+exponentials_held k Held previous = refl
+
 starts : (s : Session) → Typed s → s.n ≤ 16 → Starts s
 starts s t small = record { small = small; slope = record { fit = λ i _. t.derivative.fit i }; before = record { fit = λ i _. t.previous.fit i } }
 
@@ -53,17 +69,19 @@ step_few s r a j = go (stepped s a j) refl
     go refused h = unfold EndsWithin in tt
     go (asking x t) h = unfold EndsWithin in tt
     go (ended x e g w) h =
-        unfold EndsWithin point_of in (step_work s.scheme (point_of s) a (s.count - j) j s.answers x e g w r.small r.slope r.before h).few
+        unfold EndsWithin point_of in
+        rw (exponentials_held s.scheme s.history s.previous) at
+        (step_work s.scheme (point_of s) a (s.count - j) j s.answers x e g w r.small r.slope (past s.n s.history s.previous r.before) h).few
 
 -- ---- what is told
-Bounded : ℕ → Answer → Type 0
-Bounded most (Ask time) = Unit
-Bounded most (Ready norm rhs jacobians products) = products ≤ most
-Bounded most Resting = Unit
-Bounded most (FirstStep step) = Unit
-Bounded most (Filled terms squarings) = Few terms squarings
-Bounded most (Norm norm) = Unit
-Bounded most (Refused k) = Unit
+Bounded : ℕ → Result Answer Refusal → Type 0
+Bounded most (Ok (Ask time)) = Unit
+Bounded most (Ok (Ready norm rhs jacobians products)) = products ≤ most
+Bounded most (Ok Resting) = Unit
+Bounded most (Ok (FirstStep step)) = Unit
+Bounded most (Ok (Filled terms squarings)) = Few terms squarings
+Bounded most (Ok (Norm norm)) = Unit
+Bounded most (Err why) = Unit
 
 shown_few : (most : ℕ) (old s : Session) (o : List Float) (p : Progress) → EndsWithin most p → Bounded most (shown old s o p).told.answer
 unfolding shown ready_of Bounded EndsWithin
@@ -86,23 +104,23 @@ run_few s next o e r =
     } in
     subst (λ (r : Run). Bounded (47 * exponentials r.scheme (is_held r.history)) (shown s next o (progress next)).told.answer) e (attempt_few s next o at_next)
 
-call_few : (most k : ℕ) (s : Session) (o : List Float) (r : Outcome) → (k ≡ 0 → Bounded most r.told.answer) → Bounded most (unless k (refuse_lent s o) r).told.answer
+call_few : (most : ℕ) (k : Result ⊤ Refusal) (s : Session) (o : List Float) (r : Outcome) → (k ≡ Ok tt → Bounded most r.told.answer) → Bounded most (unless k (refuse_lent s o) r).told.answer
 call_few most k s o r h = unless_either k (refuse_lent s o) r (λ r. Bounded most r.told.answer) (λ j. unfold Bounded in tt) h
 
-ready_few : (most : ℕ) (a : Answer) → Bounded most a → (norm : Float) (rhs jacobians products : ℕ) → a ≡ Ready norm rhs jacobians products → products ≤ most
+ready_few : (most : ℕ) (a : Result Answer Refusal) → Bounded most a → (norm : Float) (rhs jacobians products : ℕ) → a ≡ Ok (Ready norm rhs jacobians products) → products ≤ most
 ready_few most a h norm rhs jacobians products e = unfold Bounded in subst (Bounded most) e h
 
 -- a bare call
-bare_far : (k : ℕ) (o : List Float) (b : Bool) (terms squarings : ℕ) (made : List Float) → (k ≡ 0 → b ≡ true → Few terms squarings)
-    → Bounded 0 (unless k (refuse_bare o) (cond b (bare (Filled terms squarings) made) (refuse_bare o 6))).answer
+bare_far : (k : Result ⊤ Refusal) (o : List Float) (b : Bool) (terms squarings : ℕ) (made : List Float) → (k ≡ Ok tt → b ≡ true → Few terms squarings)
+    → Bounded 0 (unless k (refuse_bare o) (cond b (bare (Ok (Filled terms squarings)) made) (refuse_bare o Why.Arithmetic))).answer
 unfolding Bounded
 bare_far k o b terms squarings made h = unless_either k (refuse_bare o) _ (λ r. Bounded 0 r.answer) (λ j. tt) (λ z. go b (h z))
   where
-    go : (c : Bool) → (c ≡ true → Few terms squarings) → Bounded 0 (cond c (bare (Filled terms squarings) made) (refuse_bare o 6)).answer
+    go : (c : Bool) → (c ≡ true → Few terms squarings) → Bounded 0 (cond c (bare (Ok (Filled terms squarings)) made) (refuse_bare o Why.Arithmetic)).answer
     go true l = l refl
     go false l = tt
 
-filled_far : (a : Answer) → Bounded 0 a → (terms squarings : ℕ) → a ≡ Filled terms squarings → Few terms squarings
+filled_far : (a : Result Answer Refusal) → Bounded 0 a → (terms squarings : ℕ) → a ≡ Ok (Filled terms squarings) → Few terms squarings
 filled_far a h terms squarings e = unfold Bounded in subst (Bounded 0) e h
 
 -- ---- THE CLAIM
@@ -111,23 +129,23 @@ unfolding begin_call supply_call exponential_call phi_call
 products = record {
   begin = λ s step wish jacobian out t.
       let next = begun s step (attempt_of wish) jacobian in
-      ready_few (47 * exponentials_of s) _ (call_few (47 * exponentials_of s) (fault (begin_tests s step (attempt_of wish) jacobian (length out))) s out (shown s next out (progress next)) (λ e.
+      ready_few (47 * exponentials_of s) _ (call_few (47 * exponentials_of s) (tested (begin_tests s step (attempt_of wish) jacobian (length out))) s out (shown s next out (progress next)) (λ e.
       let p = begin_passes s step (attempt_of wish) jacobian (length out) e in
-      run_few s next out (unfold begun in refl) (starts s t (fault_none (Only Rest) s p.0).small)));
+      run_few s next out (unfold begun in refl) (starts s t (passed_sound (Only Rest) s p.0).small)));
   supply = λ s answer out t.
       let next = answered s answer in
-      ready_few (47 * exponentials_of s) _ (call_few (47 * exponentials_of s) (fault (supply_tests s answer (length out))) s out (shown s next out (progress next)) (λ e.
+      ready_few (47 * exponentials_of s) _ (call_few (47 * exponentials_of s) (tested (supply_tests s answer (length out))) s out (shown s next out (progress next)) (λ e.
       let p = supply_passes s answer (length out) e in
-      run_few s next out (unfold answered in refl) (starts s t (fault_none (Only Asking) s p.0).small)));
+      run_few s next out (unfold answered in refl) (starts s t (passed_sound (Only Asking) s p.0).small)));
   most = λ s. omega (arith, at_most_34 s.scheme (is_held s.history));
   asking = λ time. unfold values_of figured in refl;
   exponential = λ size m out d.
-      filled_far _ (bare_far (fault (exponential_tests size m (length out))) out (admitted m size) _ _ _ (λ z r.
+      filled_far _ (bare_far (tested (exponential_tests size m (length out))) out (admitted m size) _ _ _ (λ z r.
       let s = exponential_sized size m (length out) z in
       at_most_47 m size (record { size = s.0; places = s.1.0; doubles = λ p _. d p; rows = r })));
   phi_action = λ n order scaleA a input out d.
       let x = vec n (λ i. input ! i) in
-      filled_far _ (bare_far (fault (phi_tests n order scaleA a input (length out))) out (phi_action n a scaleA order x).tally.ok _ _ _ (λ z r.
+      filled_far _ (bare_far (tested (phi_tests n order scaleA a input (length out))) out (phi_action n a scaleA order x).tally.ok _ _ _ (λ z r.
       let s = phi_sized n order scaleA a input (length out) z in
       phi_reach n a scaleA order x s.sized.small s.most (record { fit = λ i h. rw (vec_at n (λ i. input ! i) i h) (d i) })));
 }

@@ -12,11 +12,14 @@ use Rattle.matrix.specs.Matrix.{admitted, exponential}
 use Rattle.matrix.specs.Vector.{vec}
 use Rattle.methods.specs.Phi.{phi_action}
 use Rattle.methods.specs.Step.{Progress, refused, asking, ended}
+use Rattle.std.specs.Prelude.{Result, Ok, Err, ⊤}
+use Rattle.session.specs.declared.Refusal.{Refusal}
+use Rattle.session.specs.declared.Refusal.TheVariants as Why
 use Rattle.session.specs.declared.Session.{Session}
 use Rattle.session.specs.declared.Told.{Told}
-use Rattle.session.specs.declared.Answer.TheVariants.{Resting, Filled, Refused}
+use Rattle.session.specs.declared.Answer.TheVariants.{Resting, Filled}
 use Rattle.session.specs.declared.Wants.TheVariants.{Any}
-use Rattle.session.specs.Tests.{Tests, fault, numbered, unless}
+use Rattle.session.specs.Tests.{Tests, refusal_number, tested, unless}
 use Rattle.session.specs.Values.{figured, values_of, number}
 use Rattle.session.specs.Session.{session_tests, progress}
 use Rattle.session.specs.Calls.{Outcome, tell, refuse, refuse_lent, opened, nothing, begun, answered, moved, ready_of, rested, shown, arrived, settled, attempt_of}
@@ -25,7 +28,7 @@ use Rattle.session.specs.Calls.{open_call, begin_call, supply_call, accept_call,
 use Rattle.session.specs.Bare.{Bare, bare, refuse_bare, exponential_tests, phi_tests, norm_tests, exponential_call, phi_call, norm_call}
 use Rattle.session.specs.Refusals.{First, works, Numbers, Kept, Unchanged, Unwritten, Refusals}
 use Rattle.session.proofs.Tests.{unless_either, call_first}
-use Rattle.session.proofs.Laws.{session_numbered, accept_passes}
+use Rattle.session.proofs.Laws.{accept_passes}
 use Rattle.session.proofs.Counts.{never_asking}
 
 -- ---- the number that is read off a result
@@ -39,48 +42,19 @@ outcome-number r = number r.told.answer
 bare-number : Bare → ℕ
 bare-number r = number r.answer
 
-refused_number : (k : ℕ) → number (Refused k) ≡ k
+refused_number : (why : Refusal) → number (Err why) ≡ refusal_number why
 unfolding number values_of
-refused_number k = refl
-
--- ---- every row has a number
-begin_numbered : (s : Session) (h : Float) (w : _) (j : List Float) (lent : ℕ) → numbered (begin_tests s h (attempt_of w) j lent) ≡ true
-unfolding numbered begin_tests session_tests attempt_tests
-begin_numbered s h w j lent = refl
-
-supply_numbered : (s : Session) (x : List Float) (lent : ℕ) → numbered (supply_tests s x lent) ≡ true
-unfolding numbered supply_tests session_tests vector_tests
-supply_numbered s x lent = refl
-
-accept_numbered : (s : Session) (x : List Float) → numbered (accept_tests s x) ≡ true
-unfolding numbered accept_tests session_tests vector_tests
-accept_numbered s x = refl
-
-first_step_numbered : (s : Session) (largest : Float) → numbered (first_step_tests s largest) ≡ true
-unfolding numbered first_step_tests session_tests largest_tests
-first_step_numbered s largest = refl
-
-exponential-numbered : (size : ℕ) (m : List Float) (lent : ℕ) → numbered (exponential_tests size m lent) ≡ true
-unfolding numbered exponential_tests
-exponential-numbered size m lent = refl
-
-phi_numbered : (n order : ℕ) (c : Float) (a x : List Float) (lent : ℕ) → numbered (phi_tests n order c a x lent) ≡ true
-unfolding numbered phi_tests
-phi_numbered n order c a x lent = refl
-
-norm-numbered : (n : ℕ) (r : Float) (a e s c : List Float) → numbered (norm_tests n r a e s c) ≡ true
-unfolding numbered norm_tests
-norm-numbered n r a e s c = refl
+refused_number why = refl
 
 -- ---- what follows the tests
-shown-first : (old s : Session) (o : List Float) (p : Progress) → First ((works p, 6) ∷ []) (outcome-number (shown old s o p))
+shown-first : (old s : Session) (o : List Float) (p : Progress) → First ((works p, Why.Arithmetic) ∷ []) (outcome-number (shown old s o p))
 unfolding First works shown outcome-number number values_of figured ready_of
 shown-first old s o refused = inl (refl, refl)
 shown-first old s o (asking x t) = inr (refl, refl)
 shown-first old s o (ended x e g w) = inr (refl, refl)
 
--- a test by 6 that is made by a condition
-either_first : {A : Type 0} (of : A → ℕ) (b : Bool) (x z : A) → of x ≡ 0 → of z ≡ 6 → First ((b, 6) ∷ []) (of (cond b x z))
+-- a test of the arithmetic that is made by a condition
+either_first : {A : Type 0} (of : A → ℕ) (b : Bool) (x z : A) → of x ≡ 0 → of z ≡ 6 → First ((b, Why.Arithmetic) ∷ []) (of (cond b x z))
 unfolding First
 either_first of true x z h k = inr (refl, h)
 either_first of false x z h k = inl (refl, k)
@@ -90,14 +64,14 @@ unfolding told_number number values_of figured
 resting-number s = refl
 
 settled-first : (s : Session) (f : List Float) (p : Progress) → ((x : List Float) (t : Float) → p ≡ asking x t → ⊥)
-    → First ((works p, 6) ∷ (finite (s.time ⊕ s.step), 6) ∷ []) (told_number (settled s f p))
+    → First ((works p, Why.Arithmetic) ∷ (finite (s.time ⊕ s.step), Why.Arithmetic) ∷ []) (told_number (settled s f p))
 unfolding First works settled
-settled-first s f refused never = inl (refl, unfold told_number in refused_number 6)
+settled-first s f refused never = inl (refl, unfold told_number in refused_number Why.Arithmetic)
 settled-first s f (asking x t) never = absurd (never x t refl)
 settled-first s f (ended x e g w) never =
-    inr (refl, unfold arrived in either_first told_number (finite (s.time ⊕ s.step)) _ (refuse s 6) (resting-number _) (unfold told_number in refused_number 6))
+    inr (refl, unfold arrived in either_first told_number (finite (s.time ⊕ s.step)) _ (refuse s Why.Arithmetic) (resting-number _) (unfold told_number in refused_number Why.Arithmetic))
 
-filled_number : (terms squarings : ℕ) (out : List Float) → bare-number (bare (Filled terms squarings) out) ≡ 0
+filled_number : (terms squarings : ℕ) (out : List Float) → bare-number (bare (Ok (Filled terms squarings)) out) ≡ 0
 unfolding bare-number number values_of figured
 filled_number terms squarings out = refl
 
@@ -109,40 +83,40 @@ none_after ((b, j) ∷ tests) k (inl h) = inl h
 none_after ((b, j) ∷ tests) k (inr h) = inr (h.0, none_after tests k h.1)
 
 -- a call whose tests are all that refuses it
-only_tests : {A : Type 0} (of : A → ℕ) (tests : Tests) (refuse : ℕ → A) (next : A) → numbered tests ≡ true → ((k : ℕ) → of (refuse k) ≡ k) → of next ≡ 0
-    → First tests (of (unless (fault tests) refuse next))
-only_tests of tests refuse next n r e = none_after tests _ (call_first of tests [] refuse next n r (λ _. unfold First in e))
+only_tests : {A : Type 0} (of : A → ℕ) (tests : Tests) (refuse : Refusal → A) (next : A) → ((why : Refusal) → of (refuse why) ≡ refusal_number why) → of next ≡ 0
+    → First tests (of (unless (tested tests) refuse next))
+only_tests of tests refuse next r e = none_after tests _ (call_first of tests [] refuse next r (λ _. unfold First in e))
 
 -- ---- THE CLAIMS
 pub numbers : Numbers
 unfolding open_call begin_call supply_call accept_call drop_call first_step_call exponential_call phi_call norm_call told_number outcome-number bare-number
 numbers = record {
   opens = λ r.
-      only_tests told_number (session_tests Any (opened r)) (refuse nothing) _ (session_numbered Any (opened r)) refused_number (resting-number (opened r));
+      only_tests told_number (session_tests Any (opened r)) (refuse nothing) _ refused_number (resting-number (opened r));
   begin = λ s step wish jacobian out.
       let next = begun s step (attempt_of wish) jacobian in
       call_first outcome-number (begin_tests s step (attempt_of wish) jacobian (length out)) _ (refuse_lent s out) _
-      (begin_numbered s step wish jacobian (length out)) refused_number (λ _. shown-first s next out (progress next));
+      refused_number (λ _. shown-first s next out (progress next));
   supply = λ s answer out.
       let next = answered s answer in
       call_first outcome-number (supply_tests s answer (length out)) _ (refuse_lent s out) _
-      (supply_numbered s answer (length out)) refused_number (λ _. shown-first s next out (progress next));
+      refused_number (λ _. shown-first s next out (progress next));
   accept = λ s derivative.
-      call_first told_number (accept_tests s derivative) _ (refuse s) _ (accept_numbered s derivative) refused_number (λ e.
+      call_first told_number (accept_tests s derivative) _ (refuse s) _ refused_number (λ e.
       settled-first s derivative (progress s) (never_asking s (accept_passes s derivative e).0));
-  drop = λ s. only_tests told_number (session_tests Any s) (refuse s) _ (session_numbered Any s) refused_number (resting-number (rested s));
+  drop = λ s. only_tests told_number (session_tests Any s) (refuse s) _ refused_number (resting-number (rested s));
   first_step = λ s largest.
-      only_tests told_number (first_step_tests s largest) (refuse s) _ (first_step_numbered s largest) refused_number (unfold number values_of figured in refl);
+      only_tests told_number (first_step_tests s largest) (refuse s) _ refused_number (unfold number values_of figured in refl);
   exponential = λ size m out.
-      call_first bare-number (exponential_tests size m (length out)) _ (refuse_bare out) _ (exponential-numbered size m (length out)) refused_number
-      (λ _. either_first bare-number (admitted m size) _ (refuse_bare out 6)
-      (filled_number (exponential m size).terms (exponential m size).squarings (exponential m size).entries) (refused_number 6));
+      call_first bare-number (exponential_tests size m (length out)) _ (refuse_bare out) _ refused_number
+      (λ _. either_first bare-number (admitted m size) _ (refuse_bare out Why.Arithmetic)
+      (filled_number (exponential m size).terms (exponential m size).squarings (exponential m size).entries) (refused_number Why.Arithmetic));
   phi_action = λ n order scaleA a input out.
       let action = phi_action n a scaleA order (vec n (λ i. input ! i)) in
-      call_first bare-number (phi_tests n order scaleA a input (length out)) _ (refuse_bare out) _ (phi_numbered n order scaleA a input (length out)) refused_number
-      (λ _. either_first bare-number action.tally.ok _ (refuse_bare out 6) (filled_number action.tally.terms action.tally.squarings (tab n (λ i. action.v ! i))) (refused_number 6));
+      call_first bare-number (phi_tests n order scaleA a input (length out)) _ (refuse_bare out) _ refused_number
+      (λ _. either_first bare-number action.tally.ok _ (refuse_bare out Why.Arithmetic) (filled_number action.tally.terms action.tally.squarings (tab n (λ i. action.v ! i))) (refused_number Why.Arithmetic));
   error_norm = λ n relative absolute error state candidate.
-      only_tests number (norm_tests n relative absolute error state candidate) Refused _ (norm-numbered n relative absolute error state candidate) refused_number
+      only_tests number (norm_tests n relative absolute error state candidate) Err _ refused_number
       (unfold number values_of figured in refl);
 }
 
@@ -163,23 +137,23 @@ settled_kept s f refused = unfold Kept in λ _. refl
 settled_kept s f (asking x t) = unfold Kept in λ _. refl
 settled_kept s f (ended x e g w) = go (finite (s.time ⊕ s.step))
   where
-    go : (b : Bool) → Kept s (cond b (tell Resting (moved s (s.time ⊕ s.step) x f g)) (refuse s 6))
+    go : (b : Bool) → Kept s (cond b (tell Resting (moved s (s.time ⊕ s.step) x f g)) (refuse s Why.Arithmetic))
     go true = resting_kept s _
     go false = unfold Kept in λ _. refl
 
--- a bare call: filled, or refused by 6
-filled_unwritten : (out made : List Float) (terms squarings : ℕ) (b : Bool) → Unwritten out (cond b (bare (Filled terms squarings) made) (refuse_bare out 6))
+-- a bare call: filled, or refused for its arithmetic
+filled_unwritten : (out made : List Float) (terms squarings : ℕ) (b : Bool) → Unwritten out (cond b (bare (Ok (Filled terms squarings)) made) (refuse_bare out Why.Arithmetic))
 unfolding Unwritten number values_of figured
 filled_unwritten out made terms squarings true = λ h. absurd (h refl)
 filled_unwritten out made terms squarings false = λ _. refl
 
-kept : (k : ℕ) (s : Session) (r : Told) → Kept s r → Kept s (unless k (refuse s) r)
+kept : (k : Result ⊤ Refusal) (s : Session) (r : Told) → Kept s r → Kept s (unless k (refuse s) r)
 kept k s r h = unless_either k (refuse s) r (Kept s) (λ j. unfold Kept in λ _. refl) (λ _. h)
 
-unchanged : (k : ℕ) (s : Session) (o : List Float) (r : Outcome) → Unchanged s o r → Unchanged s o (unless k (refuse_lent s o) r)
+unchanged : (k : Result ⊤ Refusal) (s : Session) (o : List Float) (r : Outcome) → Unchanged s o r → Unchanged s o (unless k (refuse_lent s o) r)
 unchanged k s o r h = unless_either k (refuse_lent s o) r (Unchanged s o) (λ j. unfold Unchanged in λ _. (refl, refl)) (λ _. h)
 
-unwritten : (k : ℕ) (o : List Float) (r : Bare) → Unwritten o r → Unwritten o (unless k (refuse_bare o) r)
+unwritten : (k : Result ⊤ Refusal) (o : List Float) (r : Bare) → Unwritten o r → Unwritten o (unless k (refuse_bare o) r)
 unwritten k o r h = unless_either k (refuse_bare o) r (Unwritten o) (λ j. unfold Unwritten in λ _. refl) (λ _. h)
 
 pub refusals : Refusals

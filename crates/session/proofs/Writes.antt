@@ -18,6 +18,8 @@ use Rattle.loops.specs.Loop.{stores, ◌!◌}
 use Rattle.float.specs.Arith.{◌⊕◌, zero+, plus_zero, finite}
 use Rattle.evaluation.specs.Sizes.{places, answers_kept, answer_room}
 use Rattle.methods.specs.Sizes.{etd2_number}
+use Rattle.std.specs.Prelude.{Ok}
+use Rattle.session.specs.declared.Refusal.TheVariants as Why
 use Rattle.session.specs.declared.Session.{Session}
 use Rattle.session.specs.declared.Head.{Head}
 use Rattle.session.specs.declared.History.TheVariants.{Held}
@@ -26,7 +28,7 @@ use Rattle.session.specs.declared.Attempt.TheVariants.{None, Supplied, Differenc
 use Rattle.session.specs.declared.Phase.TheVariants.{Rest}
 use Rattle.session.specs.declared.Wants.{Wants}
 use Rattle.session.specs.declared.Wants.TheVariants.{Any, Only}
-use Rattle.session.specs.Tests.{fault}
+use Rattle.session.specs.Tests.{tested}
 use Rattle.session.specs.Session.{jacobian_room, Trial, trial_of, fresh, idle, clear, in_answers, clear_answers, used_jacobian, admits, good7, session_tests}
 use Rattle.session.specs.Claims.{Doubles, Typed, Closed}
 use Rattle.session.specs.declared.Left.{Left}
@@ -34,7 +36,7 @@ use Rattle.session.specs.declared.Answer.TheVariants.{Resting}
 use Rattle.session.specs.Lent.{told_by, refused_by, resting_at}
 use Rattle.session.specs.Calls.{tell, opened, nothing, begun, rested, answered, moved, arrived}
 use Rattle.session.specs.Figures.{FIGURES, time_at, step_at, relative_at, absolute_at, state_at, derivative_at, previous_at, jacobian_at, answers_at, part, session_of, head_of}
-use Rattle.session.proofs.Laws.{fault_none, wanted-small, area}
+use Rattle.session.proofs.Laws.{passed_sound, wanted-small, area}
 use Rattle.session.proofs.Clear.{plus_zero_is}
 use Rattle.session.proofs.Blank.{wiped}
 use Rattle.session.proofs.Parts.{typed_of, read_before, part-after, part_before, set-part-after, part-within, part_put, part_wiped, length_part, part_at}
@@ -72,9 +74,9 @@ used_small Supplied n h = area h
 used_small Differenced n h = omega arith
 
 -- how much of a Jacobian is in use by a session that is not refused
-pub used_room : (k : Head) (x : List Float) (wants : Wants) (a : Attempt) → fault (session_tests wants (session_of k x)) ≡ 0 → used_jacobian a k.n ≤ 256
+pub used_room : (k : Head) (x : List Float) (wants : Wants) (a : Attempt) → tested (session_tests wants (session_of k x)) ≡ Ok tt → used_jacobian a k.n ≤ 256
 unfolding session_of
-used_room k x wants a e = used_small a k.n (fault_none wants (session_of k x) e).small
+used_room k x wants a e = used_small a k.n (passed_sound wants (session_of k x) e).small
 
 -- a place past those in use
 pub past_used : (used n : ℕ) (x : List Float) → Doubles n x → clear used x ≡ true → (i : ℕ) → used ≤ i → i < n → x ! i ≡ zero+
@@ -124,9 +126,9 @@ all_put used n y e h f =
         ∙ sym (f i (omega arith) m)
 
 -- figures of a session that is not refused are typed
-pub typed_passed : (k : Head) (x : List Float) (wants : Wants) → fault (session_tests wants (session_of k x)) ≡ 0 → Doubles FIGURES x → Typed (session_of k x)
+pub typed_passed : (k : Head) (x : List Float) (wants : Wants) → tested (session_tests wants (session_of k x)) ≡ Ok tt → Doubles FIGURES x → Typed (session_of k x)
 unfolding session_of
-typed_passed k x wants e d = typed_of k x (omega (arith, (fault_none wants (session_of k x) e).scheme)) d
+typed_passed k x wants e d = typed_of k x (omega (arith, (passed_sound wants (session_of k x) e).scheme)) d
 
 -- ---- the figures that a call changes
 
@@ -142,15 +144,15 @@ module _ (k : Head) (x : List Float) (long : length x ≡ FIGURES) (typed : Type
   abbrev pub rest_figures : List Float
   rest_figures = stores (λ _ _. zero+) answers_at (places * k.count) (stores (λ _ _. zero+) jacobian_at (used_jacobian k.attempt k.n) (set x step_at zero+))
 
-  module _ (passed : fault (session_tests Any s) ≡ 0) where
+  module _ (passed : tested (session_tests Any s) ≡ Ok tt) where
     pub few : used_jacobian k.attempt k.n ≤ 256
     unfolding session_of
-    few = used_small k.attempt k.n (fault_none Any (session_of k x) passed).small
+    few = used_small k.attempt k.n (passed_sound Any (session_of k x) passed).small
 
     pub short : k.count ≤ 20
     unfolding session_of
     short =
-        let r = fault_none Any (session_of k x) passed in
+        let r = passed_sound Any (session_of k x) passed in
         omega (arith, r.enough, wanted-small k.scheme k.n k.attempt r.small)
 
     no_jacobian : stores (λ _ _. zero+) 0 (used_jacobian k.attempt k.n) (part x jacobian_at jacobian_room) ≡ replicate jacobian_room zero+
@@ -222,7 +224,7 @@ module _ (k : Head) (x : List Float) (long : length x ≡ FIGURES) (typed : Type
 
   -- ---- an attempt, of a session at rest
 
-  module _ (passed : fault (session_tests (Only Rest) (session_of k x)) ≡ 0) (step : Float) (a : Attempt) (j : List Float) (size : Doubles jacobian_room j)
+  module _ (passed : tested (session_tests (Only Rest) (session_of k x)) ≡ Ok tt) (step : Float) (a : Attempt) (j : List Float) (size : Doubles jacobian_room j)
       (unused : clear (used_jacobian a k.n) j ≡ true) where
     abbrev pub attempting : Head
     attempting = record { scheme = k.scheme; n = k.n; history = k.history; attempt = a; count = k.count }
@@ -235,7 +237,7 @@ module _ (k : Head) (x : List Float) (long : length x ≡ FIGURES) (typed : Type
 
     some_used : used_jacobian a k.n ≤ 256
     unfolding session_of
-    some_used = used_small a k.n (fault_none (Only Rest) (session_of k x) passed).small
+    some_used = used_small a k.n (passed_sound (Only Rest) (session_of k x) passed).small
 
     no_count : k.count ≡ 0
     unfolding idle fresh session_of
@@ -327,7 +329,7 @@ module _ (k : Head) (x : List Float) (long : length x ≡ FIGURES) (y : List Flo
       ap (session_of answering) (e ∙ ap (λ (n : ℕ). stores (λ i _. y ! i) (answers_at + places * k.count) n x) l) ∙ at_answer
 
   -- +0.0 in its places again
-  pub taken_back : Typed (session_of k x) → ((i : ℕ) → T (fits binary64 (x ! i))) → (wants : Wants) → fault (session_tests wants (session_of k x)) ≡ 0
+  pub taken_back : Typed (session_of k x) → ((i : ℕ) → T (fits binary64 (x ! i))) → (wants : Wants) → tested (session_tests wants (session_of k x)) ≡ Ok tt
       → stores (λ _ _. zero+) (answers_at + places * k.count) places answer_figures ≡ x
   unfolding session_of
   taken_back typed fit wants passed =
@@ -576,7 +578,7 @@ module _ (x : List Float) (e : length x ≡ FIGURES) where
   at_nothing k y n w = ap (session_of k) w ∙ no_session k n
 
 -- a session that a call in one phase takes is taken by one in any
-pub passes_any : (wants : Wants) (s : Session) → fault (session_tests wants s) ≡ 0 → fault (session_tests Any s) ≡ 0
+pub passes_any : (wants : Wants) (s : Session) → tested (session_tests wants s) ≡ Ok tt → tested (session_tests Any s) ≡ Ok tt
 unfolding Closed good7 admits
 passes_any wants s e = good_closed (passed_good wants s e) Any
 
@@ -591,7 +593,7 @@ module _ (k : Head) (x u d g : List Float) {b : Bool} (e : b ≡ finite (x ! tim
       let sum : b ≡ finite ((session_of k x).time ⊕ (session_of k x).step) = e ∙ ap finite time in
       rw (← sum, t, f) (ap (tell Resting) (m ∙ ap (λ (v : Float). moved (session_of k x) v u d g) time))
 
-  pub arrive_bad : b ≡ false → {l : Left} → l ≡ refused_by k 6 → told_by l x ≡ arrived (session_of k x) u d g
+  pub arrive_bad : b ≡ false → {l : Left} → l ≡ refused_by k Why.Arithmetic → told_by l x ≡ arrived (session_of k x) u d g
   unfolding arrived
   arrive_bad t f =
       let time : x ! time_at ⊕ x ! step_at ≡ (session_of k x).time ⊕ (session_of k x).step = unfold session_of in refl in

@@ -1,20 +1,20 @@
 -- The six calls of a session. Each gives the answer, the session returned and, where one is lent, the output: all that a call does. Definitions only.
-use Rattle.std.specs.Prelude.{ℕ, ◌+◌, ◌*◌, Bool, true, cond, ◌&&◌, ◌||◌, List, [], ◌∷◌, ◌++◌, eqb, Float, length, replicate}
+use Rattle.std.specs.Prelude.{ℕ, ◌+◌, ◌*◌, Bool, true, cond, ◌&&◌, ◌||◌, List, [], ◌∷◌, ◌++◌, eqb, Float, length, replicate, Result, Ok, Err}
 use Rattle.std.specs.Float.Ieee.{le}
 use Rattle.loops.specs.Loop.{tab, stores, ◌!◌}
 use Rattle.float.specs.Arith.{◌⊕◌, zero+, epsilon, finite}
 use Rattle.evaluation.specs.Evaluation.{all_finite}
 use Rattle.evaluation.specs.Sizes.{places}
 use Rattle.methods.specs.Sizes.{etd2_number, exprb32_number, exprb43_number}
-use Rattle.methods.specs.declared.Kind.{Kind}
-use Rattle.methods.specs.declared.Kind.TheVariants.{Question, Done}
 use Rattle.methods.specs.declared.Work.{Work}
 use Rattle.methods.specs.Step.{Progress, refused, asking, ended}
 use Rattle.engine.specs.Engine.{error_norm, first_step}
 use Rattle.session.specs.declared.Session.{Session}
 use Rattle.session.specs.declared.Told.{Told}
 use Rattle.session.specs.declared.Answer.{Answer}
-use Rattle.session.specs.declared.Answer.TheVariants.{Ask, Ready, Resting, FirstStep, Refused}
+use Rattle.session.specs.declared.Answer.TheVariants.{Ask, Ready, Resting, FirstStep}
+use Rattle.session.specs.declared.Refusal.{Refusal}
+use Rattle.session.specs.declared.Refusal.TheVariants as Why
 use Rattle.session.specs.declared.History.TheVariants.{Missing, Held}
 use Rattle.session.specs.declared.Attempt.{Attempt}
 use Rattle.session.specs.declared.Attempt.TheVariants.{Supplied, Differenced}
@@ -22,7 +22,7 @@ use Rattle.session.specs.declared.Wish.{Wish}
 use Rattle.session.specs.declared.Wish.TheVariants.{Given, Difference}
 use Rattle.session.specs.declared.Phase.TheVariants.{Rest, Asking, Waiting}
 use Rattle.session.specs.declared.Wants.TheVariants.{Any, Only}
-use Rattle.session.specs.Tests.{Tests, fault, unless}
+use Rattle.session.specs.Tests.{Tests, tested, unless}
 use Rattle.session.specs.Session.{Run, joined, run_of, fresh, idle, clear, used_jacobian, wanted_by, step_ok, session_tests, progress}
 
 -- ---- outcomes
@@ -35,16 +35,19 @@ pub record Outcome : Type 0 where
 abbrev pub outcome : Told → List Float → Outcome
 outcome told out = record { told = told; out = out }
 
-abbrev pub tell : Answer → Session → Told
-tell answer session = record { answer = answer; session = session }
+abbrev pub told : Result Answer Refusal → Session → Told
+told answer session = record { answer = answer; session = session }
 
--- refused by k: the session goes back as it came
-abbrev pub refuse : Session → ℕ → Told
-refuse s k = tell (Refused k) s
+abbrev pub tell : Answer → Session → Told
+tell answer session = told (Ok answer) session
+
+-- refused: the session goes back as it came
+abbrev pub refuse : Session → Refusal → Told
+refuse s refusal = told (Err refusal) s
 
 -- the same, with the output as it was lent
-abbrev pub refuse_lent : Session → List Float → ℕ → Outcome
-refuse_lent s out k = outcome (refuse s k) out
+abbrev pub refuse_lent : Session → List Float → Refusal → Outcome
+refuse_lent s out refusal = outcome (refuse s refusal) out
 
 -- ---- sessions
 
@@ -113,14 +116,9 @@ ready_of s candidate error work =
     let norm = cond (has_error s.scheme) (error_norm s.n s.relative s.absolute s.state candidate error) zero+ in
     Ready norm (wanted_by s) 1 work.products
 
--- the answer of an attempt that asks, or has ended
-unfoldable pub answer_of : Session → Kind → List Float → List Float → Work → Answer
-answer_of s (Question time) x e work = Ask time
-answer_of s Done x e work = ready_of s x e work
-
--- what is told of a session with an attempt: the question or the candidate fills the output; where 6 is given, `old` goes back
+-- what is told of a session with an attempt: the question or the candidate fills the output; where it is refused, `old` goes back
 unfoldable pub shown : Session → Session → List Float → Progress → Outcome
-shown old s out refused = refuse_lent old out 6
+shown old s out refused = refuse_lent old out Why.Arithmetic
 shown old s out (asking x time) = outcome (tell (Ask time) s) (tab s.n (λ i. x ! i))
 shown old s out (ended x e g work) = outcome (tell (ready_of s x e work) s) (tab s.n (λ i. x ! i))
 
@@ -128,19 +126,19 @@ shown old s out (ended x e g work) = outcome (tell (ready_of s x e work) s) (tab
 unfoldable pub arrived : Session → List Float → List Float → List Float → Told
 arrived s candidate derivative nonlinear =
     let time = s.time ⊕ s.step in
-    cond (finite time) (tell Resting (moved s time candidate derivative nonlinear)) (refuse s 6)
+    cond (finite time) (tell Resting (moved s time candidate derivative nonlinear)) (refuse s Why.Arithmetic)
 
 -- what accept does with an attempt that has come so far; one that still asks is never met (`Counts.accept`, specs/Claims.antt)
 unfoldable pub settled : Session → List Float → Progress → Told
-settled s derivative refused = refuse s 6
-settled s derivative (asking x time) = refuse s 6
+settled s derivative refused = refuse s Why.Arithmetic
+settled s derivative (asking x time) = refuse s Why.Arithmetic
 settled s derivative (ended x e g work) = arrived s x derivative g
 
--- ---- the tests of a call: those of the session, then those of what is handed in, in the order 1, 4, 5, 3
+-- ---- the tests of a call: those of the session, then those of what is handed in, places, then tolerances, step, numbers
 
 -- a vector of n numbers, with the test of a lent output's length
 unfoldable pub vector_tests : ℕ → List Float → Bool → Tests
-vector_tests n x lent = (clear n x && lent, 1) ∷ (all_finite x, 3) ∷ []
+vector_tests n x lent = (clear n x && lent, Why.Places) ∷ (all_finite x, Why.NotFinite) ∷ []
 
 -- the attempt that a wish begins
 unfoldable pub attempt_of : Wish → Attempt
@@ -150,11 +148,11 @@ attempt_of Difference = Differenced
 -- a step, an attempt and its Jacobian, with the lent output's length
 unfoldable pub attempt_tests : ℕ → Float → Attempt → List Float → ℕ → Tests
 attempt_tests n step attempt jacobian lent =
-    (clear (used_jacobian attempt n) jacobian && eqb lent n, 1) ∷ (step_ok step, 5) ∷ (all_finite jacobian, 3) ∷ []
+    (clear (used_jacobian attempt n) jacobian && eqb lent n, Why.Places) ∷ (step_ok step, Why.Step) ∷ (all_finite jacobian, Why.NotFinite) ∷ []
 
 -- the largest step
 unfoldable pub largest_tests : Float → Tests
-largest_tests largest = (le epsilon largest, 5) ∷ []
+largest_tests largest = (le epsilon largest, Why.Step) ∷ []
 
 unfoldable pub begin_tests : Session → Float → Attempt → List Float → ℕ → Tests
 begin_tests s step attempt jacobian lent = session_tests (Only Rest) s ++ attempt_tests s.n step attempt jacobian lent
@@ -171,25 +169,25 @@ first_step_tests s largest = session_tests Any s ++ largest_tests largest
 -- ---- the calls
 
 unfoldable pub open_call : Run → Told
-open_call r = unless (fault (session_tests Any (opened r))) (refuse nothing) (tell Resting (opened r))
+open_call r = unless (tested (session_tests Any (opened r))) (refuse nothing) (tell Resting (opened r))
 
 unfoldable pub begin_call : Session → Float → Wish → List Float → List Float → Outcome
 begin_call s step wish jacobian out =
     let next = begun s step (attempt_of wish) jacobian in
-    unless (fault (begin_tests s step (attempt_of wish) jacobian (length out))) (refuse_lent s out) (shown s next out (progress next))
+    unless (tested (begin_tests s step (attempt_of wish) jacobian (length out))) (refuse_lent s out) (shown s next out (progress next))
 
 unfoldable pub supply_call : Session → List Float → List Float → Outcome
 supply_call s answer out =
     let next = answered s answer in
-    unless (fault (supply_tests s answer (length out))) (refuse_lent s out) (shown s next out (progress next))
+    unless (tested (supply_tests s answer (length out))) (refuse_lent s out) (shown s next out (progress next))
 
 unfoldable pub accept_call : Session → List Float → Told
-accept_call s derivative = unless (fault (accept_tests s derivative)) (refuse s) (settled s derivative (progress s))
+accept_call s derivative = unless (tested (accept_tests s derivative)) (refuse s) (settled s derivative (progress s))
 
 unfoldable pub drop_call : Session → Told
-drop_call s = unless (fault (session_tests Any s)) (refuse s) (tell Resting (rested s))
+drop_call s = unless (tested (session_tests Any s)) (refuse s) (tell Resting (rested s))
 
 unfoldable pub first_step_call : Session → Float → Told
 first_step_call s largest =
-    unless (fault (first_step_tests s largest)) (refuse s)
+    unless (tested (first_step_tests s largest)) (refuse s)
     (tell (FirstStep (first_step s.n s.relative s.absolute s.state s.derivative largest)) s)

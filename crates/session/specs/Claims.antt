@@ -1,5 +1,5 @@
 -- What follows from the definitions of the calls: counts, closed sessions, tolerances, products, drops, the first step and the error norms. Definitions only.
-use Rattle.std.specs.Prelude.{ℕ, ◌*◌, ◌≤◌, ◌<◌, ◌≡◌, true, false, cond, List, [], ◌∷◌, T, Float, length}
+use Rattle.std.specs.Prelude.{ℕ, ◌*◌, ◌≤◌, ◌<◌, ◌≡◌, true, false, cond, List, [], ◌∷◌, T, Float, length, Result, Ok, Err}
 use Rattle.std.specs.Float.{binary64}
 use Rattle.std.specs.Float.Ieee.{fits, is_nan}
 use Rattle.loops.specs.Loop.{◌!◌}
@@ -11,12 +11,14 @@ use Rattle.engine.specs.Claims.{Between}
 use Rattle.session.specs.declared.Session.{Session}
 use Rattle.session.specs.declared.Told.{Told}
 use Rattle.session.specs.declared.Answer.{Answer}
-use Rattle.session.specs.declared.Answer.TheVariants.{Ask, Ready, Resting, FirstStep, Filled, Norm, Refused}
+use Rattle.session.specs.declared.Answer.TheVariants.{Ask, Ready, Resting, FirstStep, Filled, Norm}
+use Rattle.session.specs.declared.Refusal.{Refusal}
+use Rattle.session.specs.declared.Refusal.TheVariants as Why
 use Rattle.session.specs.declared.Wish.{Wish}
 use Rattle.session.specs.declared.Phase.TheVariants.{Rest, Waiting}
 use Rattle.session.specs.declared.Wants.{Wants}
 use Rattle.session.specs.declared.Wants.TheVariants.{Only}
-use Rattle.session.specs.Tests.{fault}
+use Rattle.session.specs.Tests.{tested}
 use Rattle.session.specs.Values.{values_of, number}
 use Rattle.session.specs.Session.{Run, jacobian_room, wanted_by, good1, good7, positive, good4, session_tests, is_held, progress}
 use Rattle.session.specs.Calls.{tell, nothing, open_call, begin_call, supply_call, drop_call, first_step_call}
@@ -57,14 +59,14 @@ TypedCalls (c ∷ cs) = TypedCall c × TypedCalls cs
 
 -- ---- counts: Ask's session has fewer answers than its attempt wants, Ready's exactly as many
 
-unfoldable pub CountedBy : Answer → ℕ → ℕ → Type 0
-CountedBy (Ask time) count most = count < most
-CountedBy (Ready norm rhs jacobians products) count most = count ≡ most
-CountedBy Resting count most = Unit
-CountedBy (FirstStep step) count most = Unit
-CountedBy (Filled terms squarings) count most = Unit
-CountedBy (Norm norm) count most = Unit
-CountedBy (Refused k) count most = Unit
+unfoldable pub CountedBy : Result Answer Refusal → ℕ → ℕ → Type 0
+CountedBy (Ok (Ask time)) count most = count < most
+CountedBy (Ok (Ready norm rhs jacobians products)) count most = count ≡ most
+CountedBy (Ok Resting) count most = Unit
+CountedBy (Ok (FirstStep step)) count most = Unit
+CountedBy (Ok (Filled terms squarings)) count most = Unit
+CountedBy (Ok (Norm norm)) count most = Unit
+CountedBy (Err refusal) count most = Unit
 
 unfoldable pub Counted : Told → Type 0
 Counted r = CountedBy r.answer r.session.count (wanted_by r.session)
@@ -73,12 +75,12 @@ pub record Counts : Type 0 where
   pub begin : (s : Session) (step : Float) (wish : Wish) (jacobian out : List Float) → Counted (begin_call s step wish jacobian out).told
   pub supply : (s : Session) (answer out : List Float) → Counted (supply_call s answer out).told
   -- a session that accept takes is never still asking
-  pub accept : (s : Session) → fault (session_tests (Only Waiting) s) ≡ 0 → (x : List Float) (time : Float) → progress s ≡ asking x time → ⊥
+  pub accept : (s : Session) → tested (session_tests (Only Waiting) s) ≡ Ok tt → (x : List Float) (time : Float) → progress s ≡ asking x time → ⊥
 
--- ---- closed: a session that an accepted call returns is refused by nothing but 7
+-- ---- closed: a session that an accepted call returns is refused by nothing but its phase
 
 unfoldable pub Closed : Session → Type 0
-Closed s = (wants : Wants) → fault (session_tests wants s) ≡ cond (good7 wants s) 0 7
+Closed s = (wants : Wants) → tested (session_tests wants s) ≡ cond (good7 wants s) (Ok tt) (Err Why.Phase)
 
 pub record Closes : Type 0 where
   pub opens : (r : Run) → number (open_call r).answer ≡ 0 → Closed (open_call r).session
@@ -105,18 +107,18 @@ exponentials_of s = exponentials s.scheme (is_held s.history)
 pub record Products : Type 0 where
   -- of every session of the code's types, forged or not, and whatever is handed in, Ready's products are at most 47 for each exponential of its scheme's pass
   pub begin : (s : Session) (step : Float) (wish : Wish) (jacobian out : List Float) → Typed s
-      → (norm : Float) (rhs jacobians products : ℕ) → (begin_call s step wish jacobian out).told.answer ≡ Ready norm rhs jacobians products → products ≤ 47 * exponentials_of s
+      → (norm : Float) (rhs jacobians products : ℕ) → (begin_call s step wish jacobian out).told.answer ≡ Ok (Ready norm rhs jacobians products) → products ≤ 47 * exponentials_of s
   pub supply : (s : Session) (answer out : List Float) → Typed s
-      → (norm : Float) (rhs jacobians products : ℕ) → (supply_call s answer out).told.answer ≡ Ready norm rhs jacobians products → products ≤ 47 * exponentials_of s
+      → (norm : Float) (rhs jacobians products : ℕ) → (supply_call s answer out).told.answer ≡ Ok (Ready norm rhs jacobians products) → products ≤ 47 * exponentials_of s
   -- so at most 1,598
   pub most : (s : Session) → 47 * exponentials_of s ≤ 1598
   -- a pass that asks carries no sum
-  pub asking : (time : Float) → (values_of (Ask time)).counts ≡ 0 ∷ 0 ∷ 0 ∷ []
+  pub asking : (time : Float) → (values_of (Ok (Ask time))).counts ≡ 0 ∷ 0 ∷ 0 ∷ []
   -- Filled's terms and squarings are no more than an exponential may take, of every matrix and every input of doubles
   pub exponential : (size : ℕ) (m out : List Float) → ((i : ℕ) → T (fits binary64 (m ! i)))
-      → (terms squarings : ℕ) → (exponential_call size m out).answer ≡ Filled terms squarings → Few terms squarings
+      → (terms squarings : ℕ) → (exponential_call size m out).answer ≡ Ok (Filled terms squarings) → Few terms squarings
   pub phi_action : (n order : ℕ) (scaleA : Float) (a input out : List Float) → ((i : ℕ) → T (fits binary64 (input ! i)))
-      → (terms squarings : ℕ) → (phi_call n order scaleA a input out).answer ≡ Filled terms squarings → Few terms squarings
+      → (terms squarings : ℕ) → (phi_call n order scaleA a input out).answer ≡ Ok (Filled terms squarings) → Few terms squarings
 
 -- ---- drops, and the session of a refused open
 
@@ -127,9 +129,9 @@ supplies ((answer, out) ∷ rest) = supply answer out ∷ supplies rest
 
 pub record Drops : Type 0 where
   -- at rest: the session as it was
-  pub at_rest : (s : Session) → Typed s → fault (session_tests (Only Rest) s) ≡ 0 → drop_call s ≡ tell Resting s
+  pub at_rest : (s : Session) → Typed s → tested (session_tests (Only Rest) s) ≡ Ok tt → drop_call s ≡ tell Resting s
   -- after begin and any supplies, refused ones too: the session before begin
-  pub attempt : (s : Session) → Typed s → fault (session_tests (Only Rest) s) ≡ 0
+  pub attempt : (s : Session) → Typed s → tested (session_tests (Only Rest) s) ≡ Ok tt
       → (step : Float) (wish : Wish) (jacobian out : List Float) (answers : List (List Float × List Float)) → TypedCalls (supplies answers)
       → drop_call (after s (begin step wish jacobian out ∷ supplies answers)) ≡ tell Resting s
   -- every call refuses what a refused open returns by 1
@@ -139,16 +141,16 @@ pub record Drops : Type 0 where
 
 unfoldable pub FirstSteps : Type 0
 FirstSteps =
-    (s : Session) (largest step : Float) → (first_step_call s largest).answer ≡ FirstStep step → Between largest step
+    (s : Session) (largest step : Float) → (first_step_call s largest).answer ≡ Ok (FirstStep step) → Between largest step
 
 -- ---- the error norm of Ready, and the bare one: never a NaN
 
 -- for every session of the code's types, and whatever is handed in
 pub record Norms : Type 0 where
   pub begin : (s : Session) (step : Float) (wish : Wish) (jacobian out : List Float) → Typed s
-      → (norm : Float) (rhs jacobians products : ℕ) → (begin_call s step wish jacobian out).told.answer ≡ Ready norm rhs jacobians products → is_nan norm ≡ false
+      → (norm : Float) (rhs jacobians products : ℕ) → (begin_call s step wish jacobian out).told.answer ≡ Ok (Ready norm rhs jacobians products) → is_nan norm ≡ false
   pub supply : (s : Session) (answer out : List Float) → Typed s
-      → (norm : Float) (rhs jacobians products : ℕ) → (supply_call s answer out).told.answer ≡ Ready norm rhs jacobians products → is_nan norm ≡ false
+      → (norm : Float) (rhs jacobians products : ℕ) → (supply_call s answer out).told.answer ≡ Ok (Ready norm rhs jacobians products) → is_nan norm ≡ false
   pub bare : (n : ℕ) (relative : Float) (absolute error state candidate : List Float)
       → ((i : ℕ) → T (fits binary64 (absolute ! i))) → length error ≡ places → length state ≡ places → length candidate ≡ places
-      → (norm : Float) → norm_call n relative absolute error state candidate ≡ Norm norm → is_nan norm ≡ false
+      → (norm : Float) → norm_call n relative absolute error state candidate ≡ Ok (Norm norm) → is_nan norm ≡ false

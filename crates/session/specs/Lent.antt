@@ -1,5 +1,5 @@
 -- The calls over lent figures: what each leaves of the session whose figures it was lent. Definitions only.
-use Rattle.std.specs.Prelude.{ℕ, ◌*◌, Bool, cond, ◌&&◌, List, Float, take}
+use Rattle.std.specs.Prelude.{ℕ, ◌*◌, Bool, cond, ◌&&◌, List, Float, take, Result, Ok, Err}
 use Rattle.session.specs.declared.Session.{Session}
 use Rattle.session.specs.declared.Head.{Head}
 use Rattle.session.specs.declared.History.{History}
@@ -7,13 +7,15 @@ use Rattle.session.specs.declared.Attempt.TheVariants.{None}
 use Rattle.session.specs.declared.Left.{Left}
 use Rattle.session.specs.declared.Told.{Told}
 use Rattle.session.specs.declared.Answer.{Answer}
-use Rattle.session.specs.declared.Answer.TheVariants.{Resting, Refused}
+use Rattle.session.specs.declared.Answer.TheVariants.{Resting}
+use Rattle.session.specs.declared.Refusal.{Refusal}
+use Rattle.session.specs.declared.Refusal.TheVariants as Why
 use Rattle.evaluation.specs.Evaluation.{all_finite}
 use Rattle.loops.specs.Loop.{mat}
 use Rattle.methods.specs.Step.{Progress}
 use Rattle.engine.specs.Engine.{perturbed, jacobian_entry, column_ok}
 use Rattle.session.specs.Session.{Run, stepped, question}
-use Rattle.session.specs.Calls.{Outcome, tell, nothing, open_call}
+use Rattle.session.specs.Calls.{Outcome, told, nothing, open_call}
 use Rattle.session.specs.Figures.{session_of, head_of, figures_of}
 
 -- ---- what the code's steps hand on
@@ -46,15 +48,15 @@ supplied_from s = stepped s (take (s.n * s.n) s.jacobian) 0
 
 -- the session that a call left, as a head and in the figures, with its answer
 abbrev pub told_by : Left → List Float → Told
-told_by r figures = tell r.answer (session_of r.head figures)
+told_by r figures = told r.answer (session_of r.head figures)
 
--- refused by k, with the head as it was
-abbrev pub refused_by : Head → ℕ → Left
-refused_by head k = record { answer = Refused k; head = head }
+-- refused, with the head as it was
+abbrev pub refused_by : Head → Refusal → Left
+refused_by head refusal = record { answer = Err refusal; head = head }
 
 -- at rest, with this head
 abbrev pub resting_at : Head → Left
-resting_at head = record { answer = Resting; head = head }
+resting_at head = record { answer = Ok Resting; head = head }
 
 -- what is left: the answer, the head, the figures
 pub record Remains : Type 0 where
@@ -68,21 +70,21 @@ remains left figures = record { left = left; figures = figures }
 unfoldable pub left : Told → Left
 left t = record { answer = t.answer; head = head_of t.session }
 
--- a call on the session that head and figures hold; where a length does not match, it is refused by 1 and all is left as it was
+-- a call on the session that head and figures hold; where a length does not match, it is refused for its places and all is left as it was
 unfoldable pub lent_call : Bool → Head → List Float → (Session → Told) → Remains
 lent_call fits k figures call =
     let t = call (session_of k figures) in
-    cond fits (remains (left t) (figures_of t.session)) (remains (refused_by k 1) figures)
+    cond fits (remains (left t) (figures_of t.session)) (remains (refused_by k Why.Places) figures)
 
--- an open, which fills all the figures; one that is lent others is refused by 1
+-- an open, which fills all the figures; one that is lent others is refused for its places
 unfoldable pub lent_open : Bool → List Float → Run → Remains
 lent_open fits figures r =
     let t = open_call r in
-    cond fits (remains (left t) (figures_of t.session)) (remains (refused_by (head_of nothing) 1) figures)
+    cond fits (remains (left t) (figures_of t.session)) (remains (refused_by (head_of nothing) Why.Places) figures)
 
 -- a call that only tells
-unfoldable pub lent_ask : Bool → Told → Answer
-lent_ask fits t = cond fits t.answer (Refused 1)
+unfoldable pub lent_ask : Bool → Told → Result Answer Refusal
+lent_ask fits t = cond fits t.answer (Err Why.Places)
 
 -- the same with an output
 pub record Fills : Type 0 where
@@ -95,4 +97,4 @@ fills left figures out = record { remains = remains left figures; out = out }
 unfoldable pub lent_fill : Bool → Head → List Float → List Float → (Session → List Float → Outcome) → Fills
 lent_fill fits k figures out call =
     let o = call (session_of k figures) out in
-    cond fits (fills (left o.told) (figures_of o.told.session) o.out) (fills (refused_by k 1) figures out)
+    cond fits (fills (left o.told) (figures_of o.told.session) o.out) (fills (refused_by k Why.Places) figures out)

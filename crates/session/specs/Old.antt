@@ -1,5 +1,5 @@
 -- A session of the layout before request 1, with one absolute tolerance, and how it is brought over. Definitions only.
-use Rattle.std.specs.Prelude.{ℕ, ◌+◌, ◌≤◌, ◌<◌, ◌≡◌, Bool, false, cond, ◌&&◌, List, [], ◌∷◌, ltb, Float}
+use Rattle.std.specs.Prelude.{ℕ, ◌+◌, ◌≤◌, ◌<◌, ◌≡◌, Bool, false, cond, ◌&&◌, List, [], ◌∷◌, ltb, Float, Result, Ok, Err}
 use Rattle.loops.specs.Loop.{tab, ◌!◌}
 use Rattle.float.specs.Arith.{zero+}
 use Rattle.evaluation.specs.Evaluation.{all_finite}
@@ -11,9 +11,11 @@ use Rattle.session.specs.declared.OldSession.{OldSession}
 use Rattle.session.specs.declared.Head.{Head}
 use Rattle.session.specs.declared.Answer.{Answer}
 use Rattle.methods.specs.declared.Work.{Work}
-use Rattle.session.specs.declared.Answer.TheVariants.{Ready, FirstStep, Norm, Refused}
+use Rattle.session.specs.declared.Answer.TheVariants.{Ready, FirstStep, Norm}
+use Rattle.session.specs.declared.Refusal.{Refusal}
+use Rattle.session.specs.declared.Refusal.TheVariants as Why
 use Rattle.session.specs.declared.Wants.{Wants}
-use Rattle.session.specs.Tests.{Tests, fault, unless}
+use Rattle.session.specs.Tests.{Tests, refusal_number, tested, unless}
 use Rattle.session.specs.Values.{number}
 use Rattle.session.specs.Session.{jacobian_room, clear, used_history, wanted_by, size_ok, attempt_places, good2, good7, positive, good5, good3, session_tests}
 use Rattle.session.specs.Figures.{time_at, step_at, relative_at, absolute_at, part, figures_of}
@@ -108,34 +110,34 @@ old_run_places o = clear o.n o.state && clear o.n o.derivative && clear (used_hi
 unfoldable pub old_tests : Wants → OldSession → Tests
 old_tests wants o =
     let s = tolerating o [] in
-    (cond (size_ok o.n) (old_run_places o && attempt_places s) false, 1)
-    ∷ (good2 s, 2)
-    ∷ (good7 wants s, 7)
-    ∷ (both_positive o.relative o.absolute, 4)
-    ∷ (good5 o.attempt o.step, 5)
-    ∷ (good3 s, 3)
+    (cond (size_ok o.n) (old_run_places o && attempt_places s) false, Why.Places)
+    ∷ (good2 s, Why.Scheme)
+    ∷ (good7 wants s, Why.Phase)
+    ∷ (both_positive o.relative o.absolute, Why.Tolerance)
+    ∷ (good5 o.attempt o.step, Why.Step)
+    ∷ (good3 s, Why.NotFinite)
     ∷ []
 
 -- those of the bare error norm
 unfoldable pub old_norm_tests : ℕ → Float → Float → List Float → List Float → List Float → Tests
 old_norm_tests n relative absolute error state candidate =
-    (size_ok n && clear n error && clear n state && clear n candidate, 1)
-    ∷ (both_positive relative absolute, 4)
-    ∷ (all_finite error && all_finite state && all_finite candidate, 3)
+    (size_ok n && clear n error && clear n state && clear n candidate, Why.Places)
+    ∷ (both_positive relative absolute, Why.Tolerance)
+    ∷ (all_finite error && all_finite state && all_finite candidate, Why.NotFinite)
     ∷ []
 
 -- and what it told: the Rust's norm
-unfoldable pub old_norm_call : ℕ → Float → Float → List Float → List Float → List Float → Answer
+unfoldable pub old_norm_call : ℕ → Float → Float → List Float → List Float → List Float → Result Answer Refusal
 old_norm_call n relative absolute error state candidate =
-    unless (fault (old_norm_tests n relative absolute error state candidate)) Refused (Norm (scaled_error_norm n relative absolute state candidate error))
+    unless (tested (old_norm_tests n relative absolute error state candidate)) Err (Ok (Norm (scaled_error_norm n relative absolute state candidate error)))
 
 -- ---- THE CLAIM: as before
 
 pub record AsBefore : Type 0 where
-  -- a session that is brought over has the number that it had, 0 too: n of every kind
-  pub judged : (wants : Wants) (o : OldSession) → fault (session_tests wants (brought_over o)) ≡ fault (old_tests wants o)
+  -- a session that is brought over is judged as it was: n of every kind
+  pub judged : (wants : Wants) (o : OldSession) → tested (session_tests wants (brought_over o)) ≡ tested (old_tests wants o)
   -- so the next call, whatever it hands in, refuses by that number each one that it would have refused before
-  pub next : (c : Call) (o : OldSession) → (fault (old_tests (wants_of c) o) ≡ 0 → ⊥) → number (perform c (brought_over o)).told.answer ≡ fault (old_tests (wants_of c) o)
+  pub next : (c : Call) (o : OldSession) (refusal : Refusal) → tested (old_tests (wants_of c) o) ≡ Err refusal → number (perform c (brought_over o)).told.answer ≡ refusal_number refusal
   -- its tolerance stands in the first n places, and +0.0 in the others
   pub own : (o : OldSession) (i : ℕ) → i < o.n → i < places → (brought_over o).absolute ! i ≡ o.absolute
   pub others : (o : OldSession) (i : ℕ) → o.n ≤ i → i < places → (brought_over o).absolute ! i ≡ zero+
@@ -144,7 +146,7 @@ pub record AsBefore : Type 0 where
       → ready_of s candidate error work ≡ Ready (cond (has_error s.scheme) (scaled_error_norm s.n s.relative one s.state candidate error) zero+) (wanted_by s) 1 work.products
   pub first : (s : Session) (one : Float) → Equal s.n one s.absolute → (largest : Float)
       → first_step_call s largest
-      ≡ unless (fault (first_step_tests s largest)) (refuse s) (tell (FirstStep (estimate_initial_step s.n s.relative one s.state s.derivative largest)) s)
+      ≡ unless (tested (first_step_tests s largest)) (refuse s) (tell (FirstStep (estimate_initial_step s.n s.relative one s.state s.derivative largest)) s)
   -- the bare error norm with one tolerance for all answers as it did, its refusals too
   pub norm : (n : ℕ) (relative one : Float) (error state candidate : List Float)
       → norm_call n relative (copied n one) error state candidate ≡ old_norm_call n relative one error state candidate

@@ -10,7 +10,8 @@ use Rattle.session.specs.declared.Session.{Session}
 use Rattle.session.specs.declared.Told.{Told}
 use Rattle.session.specs.declared.Wish.{Wish}
 use Rattle.session.specs.declared.Wants.TheVariants.{Any}
-use Rattle.session.specs.Tests.{Tests}
+use Rattle.session.specs.declared.Refusal.TheVariants as Why
+use Rattle.session.specs.Tests.{Tests, refusal_number}
 use Rattle.session.specs.Values.{number}
 use Rattle.session.specs.Session.{Run, session_tests, progress}
 use Rattle.session.specs.Calls.{Outcome, opened, nothing, begun, answered, attempt_of, begin_tests, supply_tests, accept_tests, first_step_tests, open_call, begin_call, supply_call, accept_call}
@@ -22,7 +23,7 @@ use Rattle.session.specs.Bare.{Bare, exponential_tests, phi_tests, norm_tests, e
 -- k is the number of the first test that fails, and 0 where all hold
 unfoldable pub First : Tests → ℕ → Type 0
 First [] k = k ≡ 0
-First ((holds, number) ∷ tests) k = ((holds ≡ false) × (k ≡ number)) ⊎ ((holds ≡ true) × First tests k)
+First ((holds, refusal) ∷ tests) k = ((holds ≡ false) × (k ≡ refusal_number refusal)) ⊎ ((holds ≡ true) × First tests k)
 
 -- 6 comes last: the step's arithmetic was admitted as far as it went
 unfoldable pub works : Progress → Bool
@@ -34,18 +35,18 @@ works (ended x e g work) = true
 pub record Numbers : Type 0 where
   pub opens : (r : Run) → First (session_tests Any (opened r)) (number (open_call r).answer)
   pub begin : (s : Session) (step : Float) (wish : Wish) (jacobian out : List Float)
-      → First (begin_tests s step (attempt_of wish) jacobian (length out) ++ ((works (progress (begun s step (attempt_of wish) jacobian)), 6) ∷ []))
+      → First (begin_tests s step (attempt_of wish) jacobian (length out) ++ ((works (progress (begun s step (attempt_of wish) jacobian)), Why.Arithmetic) ∷ []))
       (number (begin_call s step wish jacobian out).told.answer)
   pub supply : (s : Session) (answer out : List Float)
-      → First (supply_tests s answer (length out) ++ ((works (progress (answered s answer)), 6) ∷ [])) (number (supply_call s answer out).told.answer)
+      → First (supply_tests s answer (length out) ++ ((works (progress (answered s answer)), Why.Arithmetic) ∷ [])) (number (supply_call s answer out).told.answer)
   pub accept : (s : Session) (derivative : List Float)
-      → First (accept_tests s derivative ++ ((works (progress s), 6) ∷ (finite (s.time ⊕ s.step), 6) ∷ [])) (number (accept_call s derivative).answer)
+      → First (accept_tests s derivative ++ ((works (progress s), Why.Arithmetic) ∷ (finite (s.time ⊕ s.step), Why.Arithmetic) ∷ [])) (number (accept_call s derivative).answer)
   pub drop : (s : Session) → First (session_tests Any s) (number (drop_call s).answer)
   pub first_step : (s : Session) (largest : Float) → First (first_step_tests s largest) (number (first_step_call s largest).answer)
   pub exponential : (size : ℕ) (m out : List Float)
-      → First (exponential_tests size m (length out) ++ ((admitted m size, 6) ∷ [])) (number (exponential_call size m out).answer)
+      → First (exponential_tests size m (length out) ++ ((admitted m size, Why.Arithmetic) ∷ [])) (number (exponential_call size m out).answer)
   pub phi_action : (n order : ℕ) (scaleA : Float) (a input out : List Float)
-      → First (phi_tests n order scaleA a input (length out) ++ (((phi_action n a scaleA order (vec n (λ i. input ! i))).tally.ok, 6) ∷ []))
+      → First (phi_tests n order scaleA a input (length out) ++ (((phi_action n a scaleA order (vec n (λ i. input ! i))).tally.ok, Why.Arithmetic) ∷ []))
       (number (phi_call n order scaleA a input out).answer)
   pub error_norm : (n : ℕ) (relative : Float) (absolute error state candidate : List Float)
       → First (norm_tests n relative absolute error state candidate) (number (norm_call n relative absolute error state candidate))

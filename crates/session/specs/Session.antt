@@ -18,6 +18,8 @@ use Rattle.session.specs.declared.Phase.{Phase}
 use Rattle.session.specs.declared.Phase.TheVariants.{Rest, Asking, Waiting}
 use Rattle.session.specs.declared.Wants.{Wants}
 use Rattle.session.specs.declared.Wants.TheVariants.{Any, Only}
+use Rattle.session.specs.declared.Refusal.TheVariants as Why
+use Rattle.std.specs.Prelude.{Option, Some, None as Nothing}
 use Rattle.session.specs.Tests.{Tests}
 
 -- ---- sizes that the session adds to those of methods/specs/Sizes.antt; the code has each as a const of the same value
@@ -225,12 +227,12 @@ good3 s = finite s.time && all_finite s.state && all_finite s.derivative && all_
 -- the tests of a session, in the order 1, 2, 7, 4, 5, 3
 unfoldable pub session_tests : Wants → Session → Tests
 session_tests wants s =
-    (good1 s, 1)
-    ∷ (good2 s, 2)
-    ∷ (good7 wants s, 7)
-    ∷ (good4 s, 4)
-    ∷ (good5 s.attempt s.step, 5)
-    ∷ (good3 s, 3)
+    (good1 s, Why.Places)
+    ∷ (good2 s, Why.Scheme)
+    ∷ (good7 wants s, Why.Phase)
+    ∷ (good4 s, Why.Tolerance)
+    ∷ (good5 s.attempt s.step, Why.Step)
+    ∷ (good3 s, Why.NotFinite)
     ∷ []
 
 -- what every session that is not refused has
@@ -248,9 +250,14 @@ unfoldable pub is_held : History → Bool
 is_held Missing = false
 is_held Held = true
 
+-- the nonlinear part of the last step, where it is kept
+unfoldable pub previous_of : History → List Float → Option (List Float)
+previous_of Missing previous = Nothing
+previous_of Held previous = Some previous
+
 -- what the schemes start from
 unfoldable pub point_of : Session → Point
-point_of s = record { n = s.n; time = s.time; step = s.step; state = s.state; f0 = s.derivative; held = is_held s.history; previous = s.previous }
+point_of s = record { n = s.n; time = s.time; step = s.step; state = s.state; f0 = s.derivative; previous = previous_of s.history s.previous }
 
 -- the step with the Jacobian a, over the answers from the j-th on
 abbrev pub stepped : Session → List Float → ℕ → Progress

@@ -1,26 +1,33 @@
--- Tests in their order, a row for each number, and what a number does to a call. Definitions only.
-use Rattle.std.specs.Prelude.{ℕ, zero, suc, Bool, true, cond, ◌&&◌, List, [], ◌∷◌, ltb, eqb}
+-- Tests in their order, a row for each refusal, and what a refusal does to a call. Definitions only.
+use Rattle.std.specs.Prelude.{ℕ, Bool, true, cond, List, [], ◌∷◌, eqb, Result, Ok, Err, ⊤}
+use Rattle.session.specs.declared.Refusal.{Refusal}
+use Rattle.session.specs.declared.Refusal.TheVariants as Why
 
--- a row: a condition, and the number that is given where it is the first to fail
+-- its number in the table of refusals
+abbrev pub refusal_number : Refusal → ℕ
+refusal_number Why.Places = 1
+refusal_number Why.Scheme = 2
+refusal_number Why.NotFinite = 3
+refusal_number Why.Tolerance = 4
+refusal_number Why.Step = 5
+refusal_number Why.Arithmetic = 6
+refusal_number Why.Phase = 7
+
+-- a row: a condition, and the refusal that is given where it is the first to fail
 abbrev pub Tests : Type 0
-Tests = List (Bool × ℕ)
+Tests = List (Bool × Refusal)
 
--- the number of the first test that fails; 0 where all hold
-unfoldable pub fault : Tests → ℕ
-fault [] = 0
-fault ((holds, number) ∷ tests) = cond holds (fault tests) number
+-- refused by the first test that fails, if one does
+unfoldable pub tested : Tests → Result ⊤ Refusal
+tested [] = Ok tt
+tested ((holds, refusal) ∷ tests) = cond holds (tested tests) (Err refusal)
 
--- the condition of the row with this number
-unfoldable pub condition : ℕ → Tests → Bool
-condition k [] = true
-condition k ((holds, number) ∷ tests) = cond (eqb number k) holds (condition k tests)
+-- the condition of the row with this refusal
+unfoldable pub condition : Refusal → Tests → Bool
+condition why [] = true
+condition why ((holds, refusal) ∷ tests) = cond (eqb (refusal_number refusal) (refusal_number why)) holds (condition why tests)
 
--- every row has a number: 0 is no refusal
-unfoldable pub numbered : Tests → Bool
-numbered [] = true
-numbered ((holds, number) ∷ tests) = ltb 0 number && numbered tests
-
--- refused by a number that is not 0; otherwise what follows
-unfoldable pub unless : {A : Type 0} → ℕ → (ℕ → A) → A → A
-unless zero refuse next = next
-unless (suc k) refuse next = refuse (suc k)
+-- refused; otherwise what follows
+unfoldable pub unless : {A : Type 0} → Result ⊤ Refusal → (Refusal → A) → A → A
+unless (Ok passed) refuse next = next
+unless (Err refusal) refuse next = refuse refusal

@@ -2,18 +2,18 @@
 // bare calls.
 #![tactic(auto)]
 
-ghost use Rattle.std.specs.Prelude.{◌≡◌, true, cond, ◌&&◌, List, ◌+◌, ◌-◌, ◌*◌, ◌≤◌, ◌<◌, ltb, eqb, Float, length};
+ghost use Rattle.std.specs.Prelude.{◌≡◌, true, cond, ◌&&◌, List, ◌+◌, ◌*◌, ◌≤◌, ◌<◌, ltb, eqb, Float, length, Ok, MatchOption};
 ghost use Rattle.loops.specs.Loop.{every, stores, ◌!◌};
 ghost use Rattle.evaluation.specs.Evaluation.{all_finite};
 ghost use Rattle.evaluation.specs.Sizes.{places, answers_kept};
 ghost use Rattle.methods.specs.Step.{progress as reached};
 ghost use Rattle.float.specs.Arith.{zero+};
-ghost use Rattle.session.specs.Tests.{fault};
+ghost use Rattle.session.specs.Tests.{refusal_number, tested};
 ghost use Rattle.session.specs.Session.{jacobian_room, clear, used_history, used_jacobian, step_clear, wanted, phase_with, phase_of, phase_number, admits};
 ghost use Rattle.session.specs.Session.{good1, history_ok, good2, good7, positive, tolerances_ok, step_ok, good5, session_tests, Sound, attempt_places};
-ghost use Rattle.session.specs.Session.{is_held, point_of, question, differencing, progress};
+ghost use Rattle.session.specs.Session.{point_of, stepped, differencing, progress};
 ghost use Rattle.session.specs.Figures.{FIGURES, answers_at, session_of, head_of, figures_of};
-ghost use Rattle.session.specs.Calls.{outcome, tell, refuse, opened, nothing, begun, rested, answered, moved, ready_of, answer_of, shown, arrived, settled};
+ghost use Rattle.session.specs.Calls.{outcome, told, tell, refuse_lent, opened, nothing, begun, rested, answered, moved, ready_of, shown, arrived, settled};
 ghost use Rattle.session.specs.Calls.{vector_tests, attempt_of, attempt_tests, largest_tests, begin_tests, supply_tests, accept_tests, first_step_tests};
 ghost use Rattle.session.specs.Calls.{open_call, begin_call, supply_call, accept_call, drop_call, first_step_call};
 ghost use Rattle.session.specs.Lent.{arrays_finite, unopened, column_of, column_asked, stepped_from, supplied_from, told_by, refused_by, resting_at, remains, fills};
@@ -25,11 +25,12 @@ mod figures;
 mod places;
 
 use evaluation::{PLACES, ROOM};
+use figures::{part, put, wipe};
 pub use figures::{
-    ABSOLUTE_AT, ANSWERS_AT, DERIVATIVE_AT, FIGURES, JACOBIAN_AT, OLD_FIGURES, PREVIOUS_AT,
-    RELATIVE_AT, STATE_AT, STEP_AT, TIME_AT,
+    ABSOLUTE_AT, ANSWERS_AT, DERIVATIVE_AT, FIGURES, Figures, JACOBIAN_AT, OLD_FIGURES,
+    PREVIOUS_AT, RELATIVE_AT, STATE_AT, STEP_AT, TIME_AT,
 };
-use methods::{ETD2, EXPRB32, EXPRB43};
+use methods::{Dimension, ETD2, EXPRB32, EXPRB43, Point, Replay, Square, StepResult, Work};
 
 // The room of a Jacobian, row by row.
 pub const JACOBIAN: usize = figures::JACOBIAN;
@@ -70,7 +71,36 @@ pub enum Answer {
     FirstStep(f64),
     Filled(u32, u32),
     Norm(f64),
-    Refused(u8),
+}
+
+// Why a call is refused: places or a dimension, the scheme with its history and answers, a number that is not finite, a tolerance, a step,
+// arithmetic that is not admitted, the phase.
+#[derive(Clone, Copy, Debug, PartialEq, Eq)]
+pub enum Refusal {
+    Places,
+    Scheme,
+    NotFinite,
+    Tolerance,
+    Step,
+    Arithmetic,
+    Phase,
+}
+
+impl From<Refusal> for u8 {
+    ghost from_gives = { λ refusal number. number ≡ refusal_number refusal };
+
+    // Its number in the table of refusals.
+    fn from(refusal: Refusal) -> u8 {
+        match refusal {
+            Refusal::Places => 1,
+            Refusal::Scheme => 2,
+            Refusal::NotFinite => 3,
+            Refusal::Tolerance => 4,
+            Refusal::Step => 5,
+            Refusal::Arithmetic => 6,
+            Refusal::Phase => 7,
+        }
+    }
 }
 
 // A run and its attempt. Entries past n and places not in use are +0.0; the Jacobian fills the first n * n places, row by row; answer k
@@ -122,17 +152,17 @@ pub struct Head {
     pub count: usize,
 }
 
-// An answer, and the head of the session whose figures the call left.
+// An answer or a refusal, and the head of the session whose figures the call left.
 #[derive(Clone, Copy)]
 pub struct Left {
-    pub answer: Answer,
+    pub answer: Result<Answer, Refusal>,
     pub head: Head,
 }
 
-// An answer, and the session that comes back.
+// An answer or a refusal, and the session that comes back.
 #[derive(Clone, Copy)]
 pub struct Told {
-    pub answer: Answer,
+    pub answer: Result<Answer, Refusal>,
     pub session: Session,
 }
 
@@ -199,10 +229,10 @@ fn step_clear(a: Attempt, step: f64) -> bool
 fn run_places(
     n: usize,
     history: History,
-    absolute: &[f64],
-    state: &[f64],
-    derivative: &[f64],
-    previous: &[f64],
+    absolute: &[f64; PLACES],
+    state: &[f64; PLACES],
+    derivative: &[f64; PLACES],
+    previous: &[f64; PLACES],
     calm: bool,
 ) -> bool
     requires { («calm» ≡ true → all_finite state.now ≡ true) × («calm» ≡ true → all_finite derivative.now ≡ true) × («calm» ≡ true → all_finite previous.now ≡ true) }
@@ -215,8 +245,8 @@ fn run_places(
 }
 
 // 1, of the attempt.
-fn attempt_places(k: Head, figures: &[f64], calm: bool) -> bool
-    requires figures_len { (length figures.now ≡ FIGURES) × (k.n ≤ places) }
+fn attempt_places(k: Head, figures: &Figures, calm: bool) -> bool
+    requires n_le_places { k.n ≤ places }
     requires figures_value { «calm» ≡ true → arrays_finite (session_of k figures.now) ≡ true }
     ensures { result ≡ attempt_places (session_of k figures.now) }
 {
@@ -224,16 +254,15 @@ fn attempt_places(k: Head, figures: &[f64], calm: bool) -> bool
     let attempt = k.attempt;
     step_clear(attempt, figures[STEP_AT])
         & places::clear(
-            &figures[JACOBIAN_AT..ANSWERS_AT],
+            part::<JACOBIAN>(figures, JACOBIAN_AT),
             used_jacobian(attempt, n),
             calm,
         )
-        & places::clear_answers(&figures[ANSWERS_AT..FIGURES], k.count, n, calm)
+        & places::clear_answers(part(figures, ANSWERS_AT), k.count, n, calm)
 }
 
-fn good1(k: Head, figures: &[f64], calm: bool) -> bool
-    requires figures_len { length figures.now ≡ FIGURES }
-    requires figures_value { «calm» ≡ true → arrays_finite (session_of k figures.now) ≡ true }
+fn good1(k: Head, figures: &Figures, calm: bool) -> bool
+    requires { «calm» ≡ true → arrays_finite (session_of k figures.now) ≡ true }
     ensures { result ≡ good1 (session_of k figures.now) }
 {
     let n = k.n;
@@ -242,10 +271,10 @@ fn good1(k: Head, figures: &[f64], calm: bool) -> bool
         return run_places(
             n,
             history,
-            &figures[ABSOLUTE_AT..STATE_AT],
-            &figures[STATE_AT..DERIVATIVE_AT],
-            &figures[DERIVATIVE_AT..PREVIOUS_AT],
-            &figures[PREVIOUS_AT..JACOBIAN_AT],
+            part(figures, ABSOLUTE_AT),
+            part(figures, STATE_AT),
+            part(figures, DERIVATIVE_AT),
+            part(figures, PREVIOUS_AT),
             calm,
         ) & attempt_places(k, figures, calm);
     }
@@ -341,8 +370,8 @@ fn all_positive(x: &[f64], n: usize) -> bool
     ok
 }
 
-fn tolerances_ok(n: usize, relative: f64, absolute: &[f64]) -> bool
-    requires { (n ≤ places) × (length absolute.now ≡ places) }
+fn tolerances_ok(n: usize, relative: f64, absolute: &[f64; PLACES]) -> bool
+    requires { n ≤ places }
     ensures { result ≡ tolerances_ok n «relative» absolute.now }
 {
     positive(relative) & all_positive(absolute, n)
@@ -359,58 +388,55 @@ fn good5(a: Attempt, step: f64) -> bool
 }
 
 // Whether every figure of the arrays is finite.
-fn arrays_finite(figures: &[f64]) -> bool
-    requires { length figures.now ≡ FIGURES }
+fn arrays_finite(figures: &Figures) -> bool
     ensures { (k : Head) → result ≡ arrays_finite (session_of k figures.now) }
 {
     evaluation::all_finite(&figures[STATE_AT..FIGURES])
 }
 
-// The number by which a session is refused, 0 if by none.
-fn session_fault(wants: Wants, k: Head, figures: &[f64]) -> u8
-    requires { length figures.now ≡ FIGURES }
-    ensures { result ≡ fault (session_tests wants (session_of k figures.now)) }
+// Why a session is refused, if it is.
+fn test_session(wants: Wants, k: Head, figures: &Figures) -> Result<(), Refusal>
+    ensures { result ≡ tested (session_tests wants (session_of k figures.now)) }
 {
     let calm = arrays_finite(figures);
     if !good1(k, figures, calm) {
-        return 1;
+        return Err(Refusal::Places);
     }
     if !good2(k) {
-        return 2;
+        return Err(Refusal::Scheme);
     }
     let attempt = k.attempt;
     let in_phase = good7(wants, k);
-    let tolerances = tolerances_ok(k.n, figures[RELATIVE_AT], &figures[ABSOLUTE_AT..STATE_AT]);
+    let tolerances = tolerances_ok(k.n, figures[RELATIVE_AT], part(figures, ABSOLUTE_AT));
     let step = good5(attempt, figures[STEP_AT]);
     let numbers = float::finite(figures[TIME_AT]) & calm;
     if !in_phase {
-        return 7;
+        return Err(Refusal::Phase);
     }
     if !tolerances {
-        return 4;
+        return Err(Refusal::Tolerance);
     }
     if !step {
-        return 5;
+        return Err(Refusal::Step);
     }
     if !numbers {
-        return 3;
+        return Err(Refusal::NotFinite);
     }
-    0
+    Ok(())
 }
 
 // The same of a run that is to be opened: its attempt holds nothing.
-fn run_fault(
+fn test_run(
     k: Head,
     time: f64,
     relative: f64,
-    absolute: &[f64],
-    state: &[f64],
-    derivative: &[f64],
-    previous: &[f64],
-) -> u8
-    requires absolute_len { length absolute.now ≡ places }
-    requires attempt_value { (k.attempt ≡ Attempt.None) × (k.count ≡ 0) }
-    ensures { result ≡ fault (session_tests Wants.Any (opened (record {
+    absolute: &[f64; PLACES],
+    state: &[f64; PLACES],
+    derivative: &[f64; PLACES],
+    previous: &[f64; PLACES],
+) -> Result<(), Refusal>
+    requires { (k.attempt ≡ Attempt.None) × (k.count ≡ 0) }
+    ensures { result ≡ tested (session_tests Wants.Any (opened (record {
       scheme = k.scheme;
       n = k.n;
       time = «time»;
@@ -428,36 +454,36 @@ fn run_fault(
         & evaluation::all_finite(derivative)
         & evaluation::all_finite(previous);
     if !((1 <= n) & (n <= PLACES)) {
-        return 1;
+        return Err(Refusal::Places);
     }
     if !run_places(n, history, absolute, state, derivative, previous, calm) {
-        return 1;
+        return Err(Refusal::Places);
     }
     if !good2(k) {
-        return 2;
+        return Err(Refusal::Scheme);
     }
-    if tolerances_ok(n, relative, absolute) {
-        if float::finite(time) & calm {
-            return 0;
-        }
-        return 3;
+    if !tolerances_ok(n, relative, absolute) {
+        return Err(Refusal::Tolerance);
     }
-    4
+    if !(float::finite(time) & calm) {
+        return Err(Refusal::NotFinite);
+    }
+    Ok(())
 }
 
 // ---- what is refused of what is handed in
 
-fn vector_fault(n: usize, x: &[f64], lent: bool) -> u8
-    ensures { result ≡ fault (vector_tests n x.now «lent») }
+fn test_vector(n: usize, x: &[f64; PLACES], lent: bool) -> Result<(), Refusal>
+    ensures { result ≡ tested (vector_tests n x.now «lent») }
 {
     let calm = evaluation::all_finite(x);
     if !(places::clear(x, n, calm) & lent) {
-        return 1;
+        return Err(Refusal::Places);
     }
     if !calm {
-        return 3;
+        return Err(Refusal::NotFinite);
     }
-    0
+    Ok(())
 }
 
 fn attempt_of(w: Wish) -> Attempt
@@ -469,209 +495,196 @@ fn attempt_of(w: Wish) -> Attempt
     }
 }
 
-fn attempt_fault(n: usize, step: f64, a: Attempt, jacobian: &[f64], lent: usize) -> u8
+fn test_attempt(
+    n: usize,
+    step: f64,
+    a: Attempt,
+    jacobian: &[f64; JACOBIAN],
+    lent: usize,
+) -> Result<(), Refusal>
     requires { n ≤ places }
-    ensures { result ≡ fault (attempt_tests n «step» a jacobian.now lent) }
+    ensures { result ≡ tested (attempt_tests n «step» a jacobian.now lent) }
 {
     let calm = evaluation::all_finite(jacobian);
     if !(places::clear(jacobian, used_jacobian(a, n), calm) & (lent == n)) {
-        return 1;
+        return Err(Refusal::Places);
     }
     if !step_ok(step) {
-        return 5;
+        return Err(Refusal::Step);
     }
     if !calm {
-        return 3;
+        return Err(Refusal::NotFinite);
     }
-    0
+    Ok(())
 }
 
-fn largest_fault(largest: f64) -> u8
-    ensures { result ≡ fault (largest_tests largest) }
+fn test_largest(largest: f64) -> Result<(), Refusal>
+    ensures { result ≡ tested (largest_tests largest) }
 {
     if !(float::EPSILON <= largest) {
-        return 5;
+        return Err(Refusal::Step);
     }
-    0
+    Ok(())
 }
 
 // ---- what a call is refused for: the session, then what is handed in
 
-fn begin_fault(k: Head, figures: &[f64], step: f64, a: Attempt, jacobian: &[f64], lent: usize) -> u8
-    requires { length figures.now ≡ FIGURES }
-    ensures { result ≡ fault (begin_tests (session_of k figures.now) «step» a jacobian.now lent) }
+fn test_begin(
+    k: Head,
+    figures: &Figures,
+    step: f64,
+    a: Attempt,
+    jacobian: &[f64; JACOBIAN],
+    lent: usize,
+) -> Result<(), Refusal>
+    ensures { result ≡ tested (begin_tests (session_of k figures.now) «step» a jacobian.now lent) }
 {
-    let fault = session_fault(Wants::Only(Phase::Rest), k, figures);
-    if fault == 0 {
-        return attempt_fault(k.n, step, a, jacobian, lent);
-    }
-    fault
+    test_session(Wants::Only(Phase::Rest), k, figures)?;
+    test_attempt(k.n, step, a, jacobian, lent)
 }
 
-fn supply_fault(k: Head, figures: &[f64], answer: &[f64], lent: usize) -> u8
-    requires { length figures.now ≡ FIGURES }
-    ensures { result ≡ fault (supply_tests (session_of k figures.now) answer.now lent) }
+fn test_supply(
+    k: Head,
+    figures: &Figures,
+    answer: &[f64; PLACES],
+    lent: usize,
+) -> Result<(), Refusal>
+    ensures { result ≡ tested (supply_tests (session_of k figures.now) answer.now lent) }
 {
-    let fault = session_fault(Wants::Only(Phase::Asking), k, figures);
-    if fault == 0 {
-        return vector_fault(k.n, answer, lent == k.n);
-    }
-    fault
+    test_session(Wants::Only(Phase::Asking), k, figures)?;
+    test_vector(k.n, answer, lent == k.n)
 }
 
-fn accept_fault(k: Head, figures: &[f64], derivative: &[f64]) -> u8
-    requires { length figures.now ≡ FIGURES }
-    ensures { result ≡ fault (accept_tests (session_of k figures.now) derivative.now) }
+fn test_accept(k: Head, figures: &Figures, derivative: &[f64; PLACES]) -> Result<(), Refusal>
+    ensures { result ≡ tested (accept_tests (session_of k figures.now) derivative.now) }
 {
-    let fault = session_fault(Wants::Only(Phase::Waiting), k, figures);
-    if fault == 0 {
-        return vector_fault(k.n, derivative, true);
-    }
-    fault
+    test_session(Wants::Only(Phase::Waiting), k, figures)?;
+    test_vector(k.n, derivative, true)
 }
 
-fn first_step_fault(k: Head, figures: &[f64], largest: f64) -> u8
-    requires { length figures.now ≡ FIGURES }
-    ensures { result ≡ fault (first_step_tests (session_of k figures.now) «largest») }
+fn test_first_step(k: Head, figures: &Figures, largest: f64) -> Result<(), Refusal>
+    ensures { result ≡ tested (first_step_tests (session_of k figures.now) «largest») }
 {
-    let fault = session_fault(Wants::Any, k, figures);
-    if fault == 0 {
-        return largest_fault(largest);
-    }
-    fault
+    test_session(Wants::Any, k, figures)?;
+    test_largest(largest)
 }
 
 // ---- the attempt, as far as its answers go
 
-fn is_held(h: History) -> bool
-    ensures { result ≡ is_held h }
-{
-    match h {
-        History::Missing => false,
-        History::Held => true,
-    }
-}
-
-fn point_of(k: Head, figures: &[f64]) -> methods::Point
-    requires { length figures.now ≡ FIGURES }
+// What the schemes start from.
+fn point_of(k: Head, figures: &Figures) -> Point
+    requires { k.n ≤ places }
     ensures { result ≡ point_of (session_of k figures.now) }
 {
-    let history = k.history;
-    let state = figures::vector_at(figures, STATE_AT);
-    let f0 = figures::vector_at(figures, DERIVATIVE_AT);
-    let previous = figures::vector_at(figures, PREVIOUS_AT);
-    let held = is_held(history);
-    methods::Point {
-        n: k.n,
+    let previous = match k.history {
+        History::Missing => None,
+        History::Held => Some(*part(figures, PREVIOUS_AT)),
+    };
+    Point {
+        n: Dimension::new(k.n),
         time: figures[TIME_AT],
         step: figures[STEP_AT],
-        state,
-        f0,
+        state: *part(figures, STATE_AT),
+        f0: *part(figures, DERIVATIVE_AT),
         previous,
-        held,
     }
 }
 
-// A column's question; it carries nothing else.
-fn asked(x: [f64; PLACES], time: f64) -> methods::StepResult
-    ensures { reached result ≡ question x time }
+// The step with a Jacobian, over the answers from the one at `first` on.
+fn stepped(k: Head, figures: &Figures, jacobian: &[f64], first: usize) -> Option<StepResult>
+    requires sound { Sound (session_of k figures.now) }
+    requires jacobian_len { length jacobian.now ≡ k.n * k.n }
+    requires first_bound { (first ≤ k.count) × (first ≤ places) }
+    ensures { reached result ≡ stepped (session_of k figures.now) jacobian.now first }
 {
-    methods::StepResult {
-        ok: evaluation::all_finite(&x),
-        kind: methods::Kind::Question(time),
-        state: x,
-        ..methods::not_allowed()
-    }
+    let replay = Replay {
+        point: point_of(k, figures),
+        jacobian,
+        answers: part(figures, ANSWERS_AT),
+        first,
+        count: k.count - first,
+    };
+    schemes::perform_step(k.scheme, &replay)
 }
 
 // All columns are answered: the step with the Jacobian that they give.
-fn stepped_from(k: Head, figures: &[f64], a: &mut [f64]) -> methods::StepResult
-    requires figures_len { (length figures.now ≡ FIGURES) × Sound (session_of k figures.now) }
-    requires n_le_count { (k.n ≤ k.count) × (k.count ≤ k.n + 4) }
+fn stepped_from(k: Head, figures: &Figures, a: &mut [f64]) -> Option<StepResult>
+    requires sound { Sound (session_of k figures.now) }
+    requires n_le_count { k.n ≤ k.count }
     requires a_len { length a.old ≡ k.n * k.n }
     ensures { reached result ≡ stepped_from (session_of k figures.now) }
 {
-    let n = k.n;
-    let answers = &figures[ANSWERS_AT..FIGURES];
     engine::jacobian_into(
-        &figures[STATE_AT..DERIVATIVE_AT],
-        &figures[DERIVATIVE_AT..PREVIOUS_AT],
-        answers,
-        n,
-        &mut *a,
+        part(figures, STATE_AT),
+        part(figures, DERIVATIVE_AT),
+        part(figures, ANSWERS_AT),
+        k.n,
+        a,
     );
-    schemes::perform_step(k.scheme, point_of(k, figures), &*a, answers, n, k.count - n)
+    stepped(k, figures, a, k.n)
 }
 
 // Whether the first m columns were asked at finite states and are finite.
-fn columns_ok(k: Head, figures: &[f64], m: usize) -> bool
-    requires figures_len { (length figures.now ≡ FIGURES) × Sound (session_of k figures.now) }
+fn columns_ok(k: Head, figures: &Figures, m: usize) -> bool
+    requires sound { Sound (session_of k figures.now) }
     requires m_le_n { m ≤ k.n }
     ensures { result ≡ every m (column_of (session_of k figures.now)) }
 {
     engine::columns_ok(
-        &figures[STATE_AT..DERIVATIVE_AT],
-        &figures[DERIVATIVE_AT..PREVIOUS_AT],
-        &figures[ANSWERS_AT..FIGURES],
+        part(figures, STATE_AT),
+        part(figures, DERIVATIVE_AT),
+        part(figures, ANSWERS_AT),
         k.n,
         m,
     )
 }
 
-// The next column's question.
-fn column(k: Head, figures: &[f64]) -> methods::StepResult
-    requires { (length figures.now ≡ FIGURES) × Sound (session_of k figures.now) }
+// The next column's question; it carries nothing else.
+fn column(k: Head, figures: &Figures) -> Option<StepResult>
+    requires { Sound (session_of k figures.now) }
     ensures { reached result ≡ column_asked (session_of k figures.now) }
 {
-    let x = engine::perturbed(&figures[STATE_AT..DERIVATIVE_AT], k.count, k.n);
-    asked(x, figures[TIME_AT])
+    let x = engine::perturbed(part(figures, STATE_AT), k.count, k.n);
+    if evaluation::all_finite(&x) {
+        return Some(StepResult::Question(x, figures[TIME_AT]));
+    }
+    None
 }
 
-fn differencing(k: Head, figures: &[f64]) -> methods::StepResult
-    requires figures_len { (length figures.now ≡ FIGURES) × Sound (session_of k figures.now) }
-    requires count_bound { k.count ≤ k.n + 4 }
+fn differencing(k: Head, figures: &Figures) -> Option<StepResult>
+    requires { Sound (session_of k figures.now) }
     ensures { reached result ≡ differencing (session_of k figures.now) }
 {
     let n = k.n;
-    let count = k.count;
-    if count < n {
-        if columns_ok(k, figures, count) {
+    if k.count < n {
+        if columns_ok(k, figures, k.count) {
             return column(k, figures);
         }
-        return methods::not_allowed();
+        return None;
     }
     if columns_ok(k, figures, n) {
         let size = n * n;
         let mut a = [0.0; JACOBIAN];
         return stepped_from(k, figures, &mut a[..size]);
     }
-    methods::not_allowed()
+    None
 }
 
-fn supplied(k: Head, figures: &[f64]) -> methods::StepResult
-    requires figures_len { (length figures.now ≡ FIGURES) × Sound (session_of k figures.now) }
-    requires count_bound { k.count ≤ 4 }
+fn supplied(k: Head, figures: &Figures) -> Option<StepResult>
+    requires { Sound (session_of k figures.now) }
     ensures { reached result ≡ supplied_from (session_of k figures.now) }
 {
     let end = JACOBIAN_AT + k.n * k.n;
-    schemes::perform_step(
-        k.scheme,
-        point_of(k, figures),
-        &figures[JACOBIAN_AT..end],
-        &figures[ANSWERS_AT..FIGURES],
-        0,
-        k.count,
-    )
+    stepped(k, figures, &figures[JACOBIAN_AT..end], 0)
 }
 
-// Where the attempt stands.
-fn run_pass(k: Head, figures: &[f64]) -> methods::StepResult
-    requires { (length figures.now ≡ FIGURES) × Sound (session_of k figures.now) }
+// Where the attempt stands; none where it is refused by 6.
+fn run_pass(k: Head, figures: &Figures) -> Option<StepResult>
+    requires { Sound (session_of k figures.now) }
     ensures { reached result ≡ progress (session_of k figures.now) }
 {
-    let attempt = k.attempt;
-    match attempt {
-        Attempt::None => methods::not_allowed(),
+    match k.attempt {
+        Attempt::None => None,
         Attempt::Supplied => supplied(k, figures),
         Attempt::Differenced => differencing(k, figures),
     }
@@ -681,13 +694,12 @@ fn run_pass(k: Head, figures: &[f64]) -> methods::StepResult
 
 fn ready_of(
     k: Head,
-    figures: &[f64],
-    candidate: &[f64],
-    error: &[f64],
-    work: methods::Work,
+    figures: &Figures,
+    candidate: &[f64; PLACES],
+    error: &[f64; PLACES],
+    work: Work,
 ) -> Answer
-    requires figures_len { (length figures.now ≡ FIGURES) × Sound (session_of k figures.now) }
-    requires candidate_len { (length candidate.now ≡ places) × (length error.now ≡ places) }
+    requires { Sound (session_of k figures.now) }
     ensures { result ≡ ready_of (session_of k figures.now) candidate.now error.now work }
 {
     let n = k.n;
@@ -697,8 +709,8 @@ fn ready_of(
         let norm = engine::scaled_error_norm(
             n,
             figures[RELATIVE_AT],
-            &figures[ABSOLUTE_AT..STATE_AT],
-            &figures[STATE_AT..DERIVATIVE_AT],
+            part(figures, ABSOLUTE_AT),
+            part(figures, STATE_AT),
             candidate,
             error,
         );
@@ -707,77 +719,52 @@ fn ready_of(
     Answer::Ready(0.0, rhs as u32, 1, work.products)
 }
 
-fn answer_of(
-    k: Head,
-    figures: &[f64],
-    kind: methods::Kind,
-    x: [f64; PLACES],
-    e: [f64; PLACES],
-    work: methods::Work,
-) -> Answer
-    requires { (length figures.now ≡ FIGURES) × Sound (session_of k figures.now) }
-    ensures { result ≡ answer_of (session_of k figures.now) kind x e work }
-{
-    match kind {
-        methods::Kind::Question(t) => Answer::Ask(t),
-        methods::Kind::Done => ready_of(k, figures, &x, &e, work),
-    }
-}
-
-// What is told of a session with an attempt, unless it is refused by 6.
-#[derive(Clone, Copy)]
-struct Shown {
-    ok: bool,
-    answer: Answer,
-}
-
-// The question or the candidate fills the output.
-fn show(k: Head, figures: &[f64], out: &mut [f64]) -> Shown
-    requires figures_len { (length figures.now ≡ FIGURES) × Sound (session_of k figures.now) }
+// The question or the candidate fills the output, and the answer is told; none where the arithmetic is not admitted.
+fn show(k: Head, figures: &Figures, out: &mut [f64]) -> Option<Answer>
+    requires sound { Sound (session_of k figures.now) }
     requires out_len { length out.old ≡ k.n }
-    ensures { (old : Session) → outcome (cond result.ok (tell result.answer (session_of k figures.now)) (refuse old 6)) out.new
-        ≡ shown old (session_of k figures.now) out.old (progress (session_of k figures.now)) }
+    ensures { (old : Session) → MatchOption result
+        (refuse_lent old out.new Refusal.Arithmetic ≡ shown old (session_of k figures.now) out.old (progress (session_of k figures.now)))
+        (λ answer. outcome (tell answer (session_of k figures.now)) out.new ≡ shown old (session_of k figures.now) out.old (progress (session_of k figures.now))) }
 {
-    let w = run_pass(k, figures);
-    let x = w.state;
-    places::copy_if(w.ok, x, &mut *out);
-    if w.ok {
-        let kind = w.kind;
-        let e = w.error;
-        let work = w.work;
-        let answer = answer_of(k, figures, kind, x, e, work);
-        return Shown { ok: true, answer };
-    }
-    Shown {
-        ok: false,
-        answer: Answer::Refused(6),
+    match run_pass(k, figures)? {
+        StepResult::Question(x, time) => {
+            places::copy_out(x, out);
+            Some(Answer::Ask(time))
+        }
+        StepResult::Done(candidate, error, _, work) => {
+            places::copy_out(candidate, out);
+            Some(ready_of(k, figures, &candidate, &error, work))
+        }
     }
 }
 
 // ---- what of a session changes
 
 // An attempt that has no answer yet, of a session at rest.
+// Kept: slices here, in `put_answer` and in `rest`, whose proofs need that each entry is a double: a slice's type tells it, that of a reference to an array does not.
 fn put_attempt(k: Head, figures: &mut [f64], step: f64, attempt: Attempt, jacobian: &[f64]) -> Head
     requires figures_len { (length figures.old ≡ FIGURES) × (length jacobian.now ≡ jacobian_room) }
-    requires figures_value { fault (session_tests (Wants.Only Phase.Rest) (session_of k figures.old)) ≡ 0 }
+    requires figures_value { tested (session_tests (Wants.Only Phase.Rest) (session_of k figures.old)) ≡ Ok tt }
     requires jacobian_value { clear (used_jacobian attempt k.n) jacobian.now ≡ true }
-    ensures { session_of result figures.new ≡ begun (session_of k figures.old) «step» attempt jacobian.now }
+    ensures begun { session_of result figures.new ≡ begun (session_of k figures.old) «step» attempt jacobian.now }
+    ensures back { rested (session_of result figures.new) ≡ session_of k figures.old }
 {
     let used = used_jacobian(attempt, k.n);
     figures[STEP_AT] = step;
-    figures::put(&jacobian[..used], &mut *figures, JACOBIAN_AT);
+    put(&jacobian[..used], figures, JACOBIAN_AT);
     Head { attempt, ..k }
 }
 
 // One answer more.
-fn put_answer(k: Head, figures: &mut [f64], answer: &[f64]) -> Head
-    requires figures_len { (length figures.old ≡ FIGURES) × (length answer.now ≡ places) }
-    requires count_lt_answers_kept { k.count < answers_kept }
-    ensures { (session_of result figures.new ≡ answered (session_of k figures.old) answer.now)
-        × (figures.new ≡ stores (λ i _. answer.now ! i) (answers_at + places * k.count) places figures.old) }
+fn put_answer(k: Head, figures: &mut [f64], answer: &[f64; PLACES]) -> Head
+    requires figures_len { length figures.old ≡ FIGURES }
+    requires figures_value { tested (session_tests (Wants.Only Phase.Asking) (session_of k figures.old)) ≡ Ok tt }
+    ensures answered { session_of result figures.new ≡ answered (session_of k figures.old) answer.now }
+    ensures back { stores (λ _ _. zero+) (answers_at + places * k.count) places figures.new ≡ figures.old }
 {
     let count = k.count;
-    figures::put(answer, &mut *figures, ANSWERS_AT + PLACES * count);
+    put(answer, figures, ANSWERS_AT + PLACES * count);
     Head {
         count: count + 1,
         ..k
@@ -785,25 +772,25 @@ fn put_answer(k: Head, figures: &mut [f64], answer: &[f64]) -> Head
 }
 
 // The places of the k-th answer hold nothing again.
-fn take_answer_back(k: Head, figures: &mut [f64])
-    requires { (length figures.old ≡ FIGURES) × (k.count < answers_kept) }
+fn take_answer_back(k: Head, figures: &mut Figures)
+    requires { k.count < answers_kept }
     ensures { figures.new ≡ stores (λ _ _. zero+) (answers_at + places * k.count) places figures.old }
 {
     let count = k.count;
-    figures::wipe(&mut *figures, ANSWERS_AT + PLACES * count, PLACES);
+    wipe(figures, ANSWERS_AT + PLACES * count, PLACES);
 }
 
 // No attempt: what it held is +0.0.
 fn rest(k: Head, figures: &mut [f64]) -> Head
     requires figures_len { length figures.old ≡ FIGURES }
-    requires figures_value { fault (session_tests Wants.Any (session_of k figures.old)) ≡ 0 }
+    requires figures_value { tested (session_tests Wants.Any (session_of k figures.old)) ≡ Ok tt }
     ensures { session_of result figures.new ≡ rested (session_of k figures.old) }
 {
     let attempt = k.attempt;
     let used = used_jacobian(attempt, k.n);
     figures[STEP_AT] = 0.0;
-    figures::wipe(&mut *figures, JACOBIAN_AT, used);
-    figures::wipe(&mut *figures, ANSWERS_AT, PLACES * k.count);
+    wipe(figures, JACOBIAN_AT, used);
+    wipe(figures, ANSWERS_AT, PLACES * k.count);
     Head {
         attempt: Attempt::None,
         count: 0,
@@ -814,23 +801,21 @@ fn rest(k: Head, figures: &mut [f64]) -> Head
 // A time and a state, at rest; Etd2 keeps the nonlinear part.
 fn move_on(
     k: Head,
-    figures: &mut [f64],
+    figures: &mut Figures,
     time: f64,
-    state: &[f64],
-    derivative: &[f64],
-    nonlinear: &[f64],
+    state: &[f64; PLACES],
+    derivative: &[f64; PLACES],
+    nonlinear: &[f64; PLACES],
 ) -> Head
-    requires figures_len { length figures.old ≡ FIGURES }
-    requires state_len { (length state.now ≡ places) × (length derivative.now ≡ places) × (length nonlinear.now ≡ places) }
-    requires figures_value { fault (session_tests Wants.Any (session_of k figures.old)) ≡ 0 }
+    requires { tested (session_tests Wants.Any (session_of k figures.old)) ≡ Ok tt }
     ensures { session_of result figures.new ≡ moved (session_of k figures.old) «time» state.now derivative.now nonlinear.now }
 {
-    let next = rest(k, &mut *figures);
+    let next = rest(k, figures);
     figures[TIME_AT] = time;
-    figures::put(state, &mut *figures, STATE_AT);
-    figures::put(derivative, &mut *figures, DERIVATIVE_AT);
+    put(state, figures, STATE_AT);
+    put(derivative, figures, DERIVATIVE_AT);
     if k.scheme == ETD2 {
-        figures::put(nonlinear, &mut *figures, PREVIOUS_AT);
+        put(nonlinear, figures, PREVIOUS_AT);
         return Head {
             history: History::Held,
             ..next
@@ -843,14 +828,12 @@ fn move_on(
 fn put_run(
     time: f64,
     relative: f64,
-    absolute: &[f64],
-    state: &[f64],
-    derivative: &[f64],
-    previous: &[f64],
-    figures: &mut [f64],
+    absolute: &[f64; PLACES],
+    state: &[f64; PLACES],
+    derivative: &[f64; PLACES],
+    previous: &[f64; PLACES],
+    figures: &mut Figures,
 )
-    requires figures_len { length figures.old ≡ FIGURES }
-    requires absolute_len { (length absolute.now ≡ places) × (length state.now ≡ places) × (length derivative.now ≡ places) × (length previous.now ≡ places) }
     ensures { (k : Head) → k.attempt ≡ Attempt.None → k.count ≡ 0 → session_of k figures.new ≡ opened (record {
       scheme = k.scheme;
       n = k.n;
@@ -866,19 +849,18 @@ fn put_run(
     figures[TIME_AT] = time;
     figures[STEP_AT] = 0.0;
     figures[RELATIVE_AT] = relative;
-    figures::put(absolute, &mut *figures, ABSOLUTE_AT);
-    figures::put(state, &mut *figures, STATE_AT);
-    figures::put(derivative, &mut *figures, DERIVATIVE_AT);
-    figures::put(previous, &mut *figures, PREVIOUS_AT);
-    figures::wipe(&mut *figures, JACOBIAN_AT, JACOBIAN + ROOM);
+    put(absolute, figures, ABSOLUTE_AT);
+    put(state, figures, STATE_AT);
+    put(derivative, figures, DERIVATIVE_AT);
+    put(previous, figures, PREVIOUS_AT);
+    wipe(figures, JACOBIAN_AT, JACOBIAN + ROOM);
 }
 
 // What a refused open leaves: n and scheme 0, no attempt, no history, every figure +0.0.
-fn put_nothing(figures: &mut [f64]) -> Head
-    requires { length figures.old ≡ FIGURES }
+fn put_nothing(figures: &mut Figures) -> Head
     ensures { session_of result figures.new ≡ nothing }
 {
-    figures::wipe(&mut *figures, 0, FIGURES);
+    wipe(figures, 0, FIGURES);
     no_head()
 }
 
@@ -910,11 +892,11 @@ fn no_head() -> Head
 
 // ---- the calls over lent figures: what is tested, what is worked out, what of the session changes
 
-fn refused(k: Head, fault: u8) -> Left
-    ensures { result ≡ refused_by k fault }
+fn refused(k: Head, refusal: Refusal) -> Left
+    ensures { result ≡ refused_by k refusal }
 {
     Left {
-        answer: Answer::Refused(fault),
+        answer: Err(refusal),
         head: k,
     }
 }
@@ -923,7 +905,7 @@ fn resting(k: Head) -> Left
     ensures { result ≡ resting_at k }
 {
     Left {
-        answer: Answer::Resting,
+        answer: Ok(Answer::Resting),
         head: k,
     }
 }
@@ -932,15 +914,13 @@ fn open_over(
     k: Head,
     time: f64,
     relative: f64,
-    absolute: &[f64],
-    state: &[f64],
-    derivative: &[f64],
-    previous: &[f64],
-    figures: &mut [f64],
+    absolute: &[f64; PLACES],
+    state: &[f64; PLACES],
+    derivative: &[f64; PLACES],
+    previous: &[f64; PLACES],
+    figures: &mut Figures,
 ) -> Left
-    requires figures_len { length figures.old ≡ FIGURES }
-    requires absolute_len { (length absolute.now ≡ places) × (length state.now ≡ places) × (length derivative.now ≡ places) × (length previous.now ≡ places) }
-    requires attempt_value { (k.attempt ≡ Attempt.None) × (k.count ≡ 0) }
+    requires { (k.attempt ≡ Attempt.None) × (k.count ≡ 0) }
     ensures { told_by result figures.new ≡ open_call (record {
       scheme = k.scheme;
       n = k.n;
@@ -953,137 +933,121 @@ fn open_over(
       previous = previous.now;
     }) }
 {
-    let fault = run_fault(k, time, relative, absolute, state, derivative, previous);
-    if fault == 0 {
-        put_run(
-            time, relative, absolute, state, derivative, previous, figures,
-        );
-        return resting(k);
+    if let Err(refusal) = test_run(k, time, relative, absolute, state, derivative, previous) {
+        return refused(put_nothing(figures), refusal);
     }
-    refused(put_nothing(figures), fault)
+    put_run(
+        time, relative, absolute, state, derivative, previous, figures,
+    );
+    resting(k)
 }
 
 fn begin_over(
     k: Head,
-    figures: &mut [f64],
+    figures: &mut Figures,
     step: f64,
     wish: Wish,
-    jacobian: &[f64],
+    jacobian: &[f64; JACOBIAN],
     out: &mut [f64],
 ) -> Left
-    requires { (length figures.old ≡ FIGURES) × (length jacobian.now ≡ jacobian_room) }
     ensures { outcome (told_by result figures.new) out.new
         ≡ begin_call (session_of k figures.old) «step» wish jacobian.now out.old }
 {
     let attempt = attempt_of(wish);
-    let fault = begin_fault(k, &*figures, step, attempt, jacobian, out.len());
-    if fault == 0 {
-        let next = put_attempt(k, &mut *figures, step, attempt, jacobian);
-        let shown = show(next, &*figures, &mut *out);
-        if shown.ok {
-            let answer = shown.answer;
-            return Left { answer, head: next };
-        }
-        return refused(rest(next, figures), 6);
+    if let Err(refusal) = test_begin(k, figures, step, attempt, jacobian, out.len()) {
+        return refused(k, refusal);
     }
-    refused(k, fault)
+    let next = put_attempt(k, figures, step, attempt, jacobian);
+    let Some(answer) = show(next, figures, out) else {
+        return refused(rest(next, figures), Refusal::Arithmetic);
+    };
+    Left {
+        answer: Ok(answer),
+        head: next,
+    }
 }
 
-fn supply_over(k: Head, figures: &mut [f64], answer: &[f64], out: &mut [f64]) -> Left
-    requires { (length figures.old ≡ FIGURES) × (length answer.now ≡ places) }
+fn supply_over(k: Head, figures: &mut Figures, answer: &[f64; PLACES], out: &mut [f64]) -> Left
     ensures { outcome (told_by result figures.new) out.new ≡ supply_call (session_of k figures.old) answer.now out.old }
 {
-    let fault = supply_fault(k, &*figures, answer, out.len());
-    if fault == 0 {
-        let next = put_answer(k, &mut *figures, answer);
-        let shown = show(next, &*figures, &mut *out);
-        if shown.ok {
-            let answer = shown.answer;
-            return Left { answer, head: next };
-        }
-        take_answer_back(k, figures);
-        return refused(k, 6);
+    if let Err(refusal) = test_supply(k, figures, answer, out.len()) {
+        return refused(k, refusal);
     }
-    refused(k, fault)
+    let next = put_answer(k, figures, answer);
+    let Some(answer) = show(next, figures, out) else {
+        take_answer_back(k, figures);
+        return refused(k, Refusal::Arithmetic);
+    };
+    Left {
+        answer: Ok(answer),
+        head: next,
+    }
 }
 
 // The candidate becomes the state; refused where the time is not finite.
 fn arrive(
     k: Head,
-    figures: &mut [f64],
+    figures: &mut Figures,
     candidate: [f64; PLACES],
-    derivative: &[f64],
+    derivative: &[f64; PLACES],
     nonlinear: [f64; PLACES],
 ) -> Left
-    requires figures_len { (length figures.old ≡ FIGURES) × (length derivative.now ≡ places) }
-    requires figures_value { fault (session_tests Wants.Any (session_of k figures.old)) ≡ 0 }
+    requires { tested (session_tests Wants.Any (session_of k figures.old)) ≡ Ok tt }
     ensures { told_by result figures.new ≡ arrived (session_of k figures.old) candidate derivative.now nonlinear }
 {
     let t = figures[TIME_AT] + figures[STEP_AT];
     if float::finite(t) {
         return resting(move_on(k, figures, t, &candidate, derivative, &nonlinear));
     }
-    refused(k, 6)
+    refused(k, Refusal::Arithmetic)
 }
 
-fn settle(k: Head, figures: &mut [f64], derivative: &[f64]) -> Left
-    requires figures_len { (length figures.old ≡ FIGURES) × (length derivative.now ≡ places) }
-    requires figures_value { fault (session_tests Wants.Any (session_of k figures.old)) ≡ 0 }
+fn settle(k: Head, figures: &mut Figures, derivative: &[f64; PLACES]) -> Left
+    requires { tested (session_tests Wants.Any (session_of k figures.old)) ≡ Ok tt }
     ensures { told_by result figures.new ≡ settled (session_of k figures.old) derivative.now (progress (session_of k figures.old)) }
 {
-    let w = run_pass(k, &*figures);
-    let kind = w.kind;
-    let candidate = w.state;
-    let nonlinear = w.nonlinear;
-    if w.ok {
-        if let methods::Kind::Done = kind {
-            return arrive(k, figures, candidate, derivative, nonlinear);
+    let Some(step) = run_pass(k, figures) else {
+        return refused(k, Refusal::Arithmetic);
+    };
+    match step {
+        StepResult::Question(_, _) => refused(k, Refusal::Arithmetic),
+        StepResult::Done(candidate, _, nonlinear, _) => {
+            arrive(k, figures, candidate, derivative, nonlinear)
         }
-        return refused(k, 6);
     }
-    refused(k, 6)
 }
 
-fn accept_over(k: Head, figures: &mut [f64], derivative: &[f64]) -> Left
-    requires { (length figures.old ≡ FIGURES) × (length derivative.now ≡ places) }
+fn accept_over(k: Head, figures: &mut Figures, derivative: &[f64; PLACES]) -> Left
     ensures { told_by result figures.new ≡ accept_call (session_of k figures.old) derivative.now }
 {
     let kept = k;
-    let fault = accept_fault(k, &*figures, derivative);
-    if fault == 0 {
-        return settle(k, figures, derivative);
+    if let Err(refusal) = test_accept(k, figures, derivative) {
+        return refused(kept, refusal);
     }
-    refused(kept, fault)
+    settle(k, figures, derivative)
 }
 
-fn drop_over(k: Head, figures: &mut [f64]) -> Left
-    requires { length figures.old ≡ FIGURES }
+fn drop_over(k: Head, figures: &mut Figures) -> Left
     ensures { told_by result figures.new ≡ drop_call (session_of k figures.old) }
 {
-    let fault = session_fault(Wants::Any, k, &*figures);
-    if fault == 0 {
-        return resting(rest(k, figures));
+    if let Err(refusal) = test_session(Wants::Any, k, figures) {
+        return refused(k, refusal);
     }
-    refused(k, fault)
+    resting(rest(k, figures))
 }
 
-fn first_step_over(k: Head, figures: &[f64], largest: f64) -> Answer
-    requires { length figures.now ≡ FIGURES }
-    ensures { tell result (session_of k figures.now) ≡ first_step_call (session_of k figures.now) «largest» }
+fn first_step_over(k: Head, figures: &Figures, largest: f64) -> Result<Answer, Refusal>
+    ensures { told result (session_of k figures.now) ≡ first_step_call (session_of k figures.now) «largest» }
 {
-    let fault = first_step_fault(k, figures, largest);
-    if fault == 0 {
-        let h = engine::estimate_initial_step(
-            k.n,
-            figures[RELATIVE_AT],
-            &figures[ABSOLUTE_AT..STATE_AT],
-            &figures[STATE_AT..DERIVATIVE_AT],
-            &figures[DERIVATIVE_AT..PREVIOUS_AT],
-            largest,
-        );
-        return Answer::FirstStep(h);
-    }
-    Answer::Refused(fault)
+    test_first_step(k, figures, largest)?;
+    Ok(Answer::FirstStep(engine::estimate_initial_step(
+        k.n,
+        figures[RELATIVE_AT],
+        part(figures, ABSOLUTE_AT),
+        part(figures, STATE_AT),
+        part(figures, DERIVATIVE_AT),
+        largest,
+    )))
 }
 
 impl Head {
@@ -1115,18 +1079,21 @@ impl Head {
               previous = previous.now;
             }) }
     {
-        if (figures.len() == FIGURES)
-            & (absolute.len() == PLACES)
-            & (state.len() == PLACES)
-            & (derivative.len() == PLACES)
-            & (previous.len() == PLACES)
-        {
-            let k = unopened(scheme, n, history);
-            return open_over(
-                k, time, relative, absolute, state, derivative, previous, figures,
-            );
-        }
-        refused(no_head(), 1)
+        let (Some(absolute), Some(state), Some(derivative), Some(previous)) = (
+            absolute.as_array(),
+            state.as_array(),
+            derivative.as_array(),
+            previous.as_array(),
+        ) else {
+            return refused(no_head(), Refusal::Places);
+        };
+        let Some(figures) = figures.as_mut_array() else {
+            return refused(no_head(), Refusal::Places);
+        };
+        let k = unopened(scheme, n, history);
+        open_over(
+            k, time, relative, absolute, state, derivative, previous, figures,
+        )
     }
 
     // Begins an attempt: the first question, or the candidate where there is none, fills `out`.
@@ -1142,10 +1109,13 @@ impl Head {
             (eqb (length figures.old) FIGURES && eqb (length jacobian.now) jacobian_room)
             self figures.old out.old (λ s o. begin_call s «step» wish jacobian.now o) }
     {
-        if (figures.len() == FIGURES) & (jacobian.len() == JACOBIAN) {
-            return begin_over(self, figures, step, wish, jacobian, out);
-        }
-        refused(self, 1)
+        let Some(jacobian) = jacobian.as_array() else {
+            return refused(self, Refusal::Places);
+        };
+        let Some(figures) = figures.as_mut_array() else {
+            return refused(self, Refusal::Places);
+        };
+        begin_over(self, figures, step, wish, jacobian, out)
     }
 
     // Supplies the derivative that was asked for: the next question, or the candidate, fills `out`.
@@ -1154,10 +1124,13 @@ impl Head {
             (eqb (length figures.old) FIGURES && eqb (length answer.now) places)
             self figures.old out.old (λ s o. supply_call s answer.now o) }
     {
-        if (figures.len() == FIGURES) & (answer.len() == PLACES) {
-            return supply_over(self, figures, answer, out);
-        }
-        refused(self, 1)
+        let Some(answer) = answer.as_array() else {
+            return refused(self, Refusal::Places);
+        };
+        let Some(figures) = figures.as_mut_array() else {
+            return refused(self, Refusal::Places);
+        };
+        supply_over(self, figures, answer, out)
     }
 
     // Accepts the candidate, with the derivative there.
@@ -1166,30 +1139,33 @@ impl Head {
             (eqb (length figures.old) FIGURES && eqb (length derivative.now) places)
             self figures.old (λ s. accept_call s derivative.now) }
     {
-        if (figures.len() == FIGURES) & (derivative.len() == PLACES) {
-            return accept_over(self, figures, derivative);
-        }
-        refused(self, 1)
+        let Some(derivative) = derivative.as_array() else {
+            return refused(self, Refusal::Places);
+        };
+        let Some(figures) = figures.as_mut_array() else {
+            return refused(self, Refusal::Places);
+        };
+        accept_over(self, figures, derivative)
     }
 
     // Drops the attempt, if there is one.
     pub fn drop(self, figures: &mut [f64]) -> Left
         ensures { remains result figures.new ≡ lent_call (eqb (length figures.old) FIGURES) self figures.old drop_call }
     {
-        if figures.len() == FIGURES {
-            return drop_over(self, figures);
-        }
-        refused(self, 1)
+        let Some(figures) = figures.as_mut_array() else {
+            return refused(self, Refusal::Places);
+        };
+        drop_over(self, figures)
     }
 
     // The first step that the run's figures suggest, at most `largest`. The session stays as it is.
-    pub fn first_step(self, figures: &[f64], largest: f64) -> Answer
+    pub fn first_step(self, figures: &[f64], largest: f64) -> Result<Answer, Refusal>
         ensures { result ≡ lent_ask (eqb (length figures.now) FIGURES) (first_step_call (session_of self figures.now) «largest») }
     {
-        if figures.len() == FIGURES {
-            return first_step_over(self, figures, largest);
-        }
-        Answer::Refused(1)
+        let Some(figures) = figures.as_array() else {
+            return Err(Refusal::Places);
+        };
+        first_step_over(self, figures, largest)
     }
 }
 
@@ -1210,7 +1186,7 @@ impl Session {
         }
     }
 
-    pub fn figures(self) -> [f64; FIGURES]
+    pub fn figures(self) -> Figures
         ensures { (result ≡ figures_of self) × (session_of (head_of self) result ≡ self) }
     {
         let mut figures = [0.0; FIGURES];
@@ -1218,17 +1194,17 @@ impl Session {
         figures
     }
 
-    pub fn of(k: Head, figures: [f64; FIGURES]) -> Session
+    pub fn of(k: Head, figures: Figures) -> Session
         ensures { result ≡ session_of k figures }
     {
         let history = k.history;
         let attempt = k.attempt;
-        let absolute = figures::vector_at(&figures, ABSOLUTE_AT);
-        let state = figures::vector_at(&figures, STATE_AT);
-        let derivative = figures::vector_at(&figures, DERIVATIVE_AT);
-        let previous = figures::vector_at(&figures, PREVIOUS_AT);
-        let jacobian = figures::matrix_at(&figures, JACOBIAN_AT);
-        let answers = figures::answers_at(&figures, ANSWERS_AT);
+        let absolute = *part(&figures, ABSOLUTE_AT);
+        let state = *part(&figures, STATE_AT);
+        let derivative = *part(&figures, DERIVATIVE_AT);
+        let previous = *part(&figures, PREVIOUS_AT);
+        let jacobian = *part(&figures, JACOBIAN_AT);
+        let answers = *part(&figures, ANSWERS_AT);
         Session {
             scheme: k.scheme,
             n: k.n,
@@ -1249,7 +1225,7 @@ impl Session {
 }
 
 // The session that a call left in the figures, with its answer.
-fn given_back(left: Left, figures: [f64; FIGURES]) -> Told
+fn given_back(left: Left, figures: Figures) -> Told
     ensures { result ≡ told_by left figures }
 {
     let answer = left.answer;
@@ -1404,18 +1380,13 @@ impl OldSession {
 }
 
 // The same over lent figures.
-fn bring_over_figures(n: usize, old: &[f64], figures: &mut [f64])
-    requires { (length old.now ≡ old_figures) × (length figures.old ≡ FIGURES) }
+fn bring_over_figures(n: usize, old: &[f64; OLD_FIGURES], figures: &mut Figures)
     ensures { (k : Head) → k.n ≡ n → figures.new ≡ figures_of (brought_over (old_session_of k old.now)) }
 {
     let absolute = copied(n, old[ABSOLUTE_AT]);
-    figures::put(&old[..ABSOLUTE_AT], &mut *figures, TIME_AT);
-    figures::put(&absolute, &mut *figures, ABSOLUTE_AT);
-    figures::put(
-        &old[figures::OLD_STATE_AT..OLD_FIGURES],
-        &mut *figures,
-        STATE_AT,
-    );
+    put(&old[..ABSOLUTE_AT], figures, TIME_AT);
+    put(&absolute, figures, ABSOLUTE_AT);
+    put(&old[figures::OLD_STATE_AT..OLD_FIGURES], figures, STATE_AT);
 }
 
 impl Head {
@@ -1424,60 +1395,66 @@ impl Head {
         ensures { (result ≡ (eqb (length old.now) old_figures && eqb (length figures.old) FIGURES))
             × (figures.new ≡ lent_bring_over result self old.now figures.old) }
     {
-        if (old.len() == OLD_FIGURES) & (figures.len() == FIGURES) {
-            bring_over_figures(self.n, old, figures);
-            return true;
-        }
-        false
+        let Some(old) = old.as_array() else {
+            return false;
+        };
+        let Some(figures) = figures.as_mut_array() else {
+            return false;
+        };
+        bring_over_figures(self.n, old, figures);
+        true
     }
 }
 
 // ---- the bare calls
 
-fn exponential_fault(size: usize, m: &[f64], lent: usize) -> u8
-    ensures { result ≡ fault (exponential_tests size m.now lent) }
+fn test_exponential(size: usize, m: &[f64], lent: usize) -> Result<(), Refusal>
+    ensures { result ≡ tested (exponential_tests size m.now lent) }
 {
     if (1 <= size) & (size <= LARGEST) {
         if (m.len() == size * size) & (lent == size * size) {
             if evaluation::all_finite(m) {
-                return 0;
+                return Ok(());
             }
-            return 3;
+            return Err(Refusal::NotFinite);
         }
     }
-    1
+    Err(Refusal::Places)
 }
 
 // The exponential of a matrix of size 1 to 20, into `out`, and how far it went.
-pub fn exponential(size: usize, m: &[f64], out: &mut [f64]) -> Answer
+pub fn exponential(size: usize, m: &[f64], out: &mut [f64]) -> Result<Answer, Refusal>
     ensures { bare result out.new ≡ exponential_call size m.now out.old }
 {
-    let k = exponential_fault(size, m, out.len());
-    if k == 0 {
-        let mut a = [0.0; LARGEST * LARGEST];
-        let end = size * size;
-        figures::put(m, &mut a, 0);
-        let reach = matrix::matrix_exp(&mut a[..end], &mut *out, size);
-        if reach.ok {
-            return Answer::Filled(reach.terms, reach.squarings);
-        }
-        return Answer::Refused(6);
-    }
-    Answer::Refused(k)
+    test_exponential(size, m, out.len())?;
+    let mut a = [0.0; LARGEST * LARGEST];
+    let end = size * size;
+    put(m, &mut a, 0);
+    let Some(reach) = matrix::matrix_exp(&mut a[..end], out, size) else {
+        return Err(Refusal::Arithmetic);
+    };
+    Ok(Answer::Filled(reach.terms, reach.squarings))
 }
 
-fn phi_fault(n: usize, order: usize, scale_a: f64, a: &[f64], input: &[f64], lent: usize) -> u8
-    ensures { result ≡ fault (phi_tests n order scale_a a.now input.now lent) }
+fn test_phi(
+    n: usize,
+    order: usize,
+    scale_a: f64,
+    a: &[f64],
+    input: &[f64],
+    lent: usize,
+) -> Result<(), Refusal>
+    ensures { result ≡ tested (phi_tests n order scale_a a.now input.now lent) }
 {
     if (1 <= n) & (n <= PLACES) & (1 <= order) & (order <= 4) {
         if (a.len() == n * n) & (input.len() == n) & (lent == n) {
             if float::finite(scale_a) & evaluation::all_finite(a) & evaluation::all_finite(input) {
-                return 0;
+                return Ok(());
             }
-            return 3;
+            return Err(Refusal::NotFinite);
         }
     }
-    1
+    Err(Refusal::Places)
 }
 
 // The phi action of order 1 to 4 on n numbers, into `out`, and how far its exponential went.
@@ -1488,32 +1465,30 @@ pub fn phi_action(
     a: &[f64],
     input: &[f64],
     out: &mut [f64],
-) -> Answer
+) -> Result<Answer, Refusal>
     ensures { bare result out.new ≡ phi_call n order scale_a a.now input.now out.old }
 {
-    let k = phi_fault(n, order, scale_a, a, input, out.len());
-    if k == 0 {
-        let action = methods::phi_action(a, scale_a, order, places::vector(input, n), n);
-        let tally = action.tally;
-        if tally.ok {
-            let v = action.v;
-            places::copy_out(v, &mut *out);
-            return Answer::Filled(tally.terms, tally.squarings);
-        }
-        return Answer::Refused(6);
-    }
-    Answer::Refused(k)
+    test_phi(n, order, scale_a, a, input, out.len())?;
+    let square = Square {
+        n: Dimension::new(n),
+        entries: a,
+    };
+    let Some(action) = square.phi_action(scale_a, order, places::vector(input, n)) else {
+        return Err(Refusal::Arithmetic);
+    };
+    places::copy_out(action.v, out);
+    Ok(Answer::Filled(action.tally.terms, action.tally.squarings))
 }
 
-fn norm_fault(
+fn test_norm(
     n: usize,
     relative: f64,
     absolute: [f64; PLACES],
     error: [f64; PLACES],
     state: [f64; PLACES],
     candidate: [f64; PLACES],
-) -> u8
-    ensures { result ≡ fault (norm_tests n relative absolute error state candidate) }
+) -> Result<(), Refusal>
+    ensures { result ≡ tested (norm_tests n relative absolute error state candidate) }
 {
     let calm = evaluation::all_finite(&error)
         & evaluation::all_finite(&state)
@@ -1525,15 +1500,15 @@ fn norm_fault(
         & places::clear(&state, n, calm)
         & places::clear(&candidate, n, calm))
     {
-        return 1;
+        return Err(Refusal::Places);
     }
     if tolerances_ok(n, relative, &absolute) {
         if calm {
-            return 0;
+            return Ok(());
         }
-        return 3;
+        return Err(Refusal::NotFinite);
     }
-    4
+    Err(Refusal::Tolerance)
 }
 
 // The error norm of n entries.
@@ -1544,14 +1519,9 @@ pub fn error_norm(
     error: [f64; PLACES],
     state: [f64; PLACES],
     candidate: [f64; PLACES],
-) -> Answer
+) -> Result<Answer, Refusal>
     ensures { result ≡ norm_call n relative absolute error state candidate }
 {
-    let k = norm_fault(n, relative, absolute, error, state, candidate);
-    if k == 0 {
-        return Answer::Norm(engine::scaled_error_norm(
-            n, relative, &absolute, &state, &candidate, &error,
-        ));
-    }
-    Answer::Refused(k)
+    test_norm(n, relative, absolute, error, state, candidate)?;
+    Ok(Answer::Norm(engine::scaled_error_norm(n, relative, &absolute, &state, &candidate, &error)))
 }

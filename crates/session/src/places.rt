@@ -45,7 +45,7 @@ pub fn clear(x: &[f64], used: usize, calm: bool) -> bool
 }
 
 // Whether the places that hold no entry of an answer are +0.0, place by place.
-fn clear_answers_each(x: &[f64], count: usize, n: usize) -> bool
+fn clear_answers_each(x: &[f64; ROOM], count: usize, n: usize) -> bool
     ensures { result ≡ clear_answers count n x.now }
 {
     let mut ok = true;
@@ -56,8 +56,8 @@ fn clear_answers_each(x: &[f64], count: usize, n: usize) -> bool
 }
 
 // Whether each of the first answers is +0.0 past n.
-fn blank_answers(x: &[f64], count: usize, n: usize) -> bool
-    requires x_len { (length x.now ≡ answer_room) × (count ≤ answers_kept) × (n ≤ places) }
+fn blank_answers(x: &[f64; ROOM], count: usize, n: usize) -> bool
+    requires sizes { (count ≤ answers_kept) × (n ≤ places) }
     requires x_value { all_finite x.now ≡ true }
     ensures { result ≡ every count (λ k. every (places - n) (λ i. plus_zero (x.now ! (places * k + n + i)))) }
 {
@@ -69,8 +69,8 @@ fn blank_answers(x: &[f64], count: usize, n: usize) -> bool
 }
 
 // The same of the places that hold no entry of an answer; `calm` says that every place is finite.
-pub fn clear_answers(x: &[f64], count: usize, n: usize, calm: bool) -> bool
-    requires x_len { (length x.now ≡ answer_room) × (n ≤ places) }
+pub fn clear_answers(x: &[f64; ROOM], count: usize, n: usize, calm: bool) -> bool
+    requires n_le_places { n ≤ places }
     requires x_value { calm ≡ true → all_finite x.now ≡ true }
     ensures { result ≡ clear_answers count n x.now }
 {
@@ -89,16 +89,6 @@ pub fn copy_out(x: [f64; PLACES], out: &mut [f64])
 {
     for i in 0..out.len() {
         out[i] = x[i];
-    }
-}
-
-// The same, where it is allowed; otherwise out is left as it is.
-pub fn copy_if(allowed: bool, x: [f64; PLACES], out: &mut [f64])
-    requires { length out.old ≤ places }
-    ensures { out.new ≡ cond allowed (tab (length out.old) (λ i. x ! i)) out.old }
-{
-    if allowed {
-        copy_out(x, out);
     }
 }
 

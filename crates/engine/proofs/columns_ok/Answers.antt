@@ -11,7 +11,6 @@ column_ok-ok-requires c =
     record {
       n_le_places = omega arith;
       j_lt_n = omega arith;
-      state_len = omega arith;
       state_value = c.requires.state_value;
     }
 

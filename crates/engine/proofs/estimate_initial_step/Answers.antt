@@ -10,7 +10,7 @@ loop-i-init c = (omega arith, most_none _ _)
 
 pub loop-i-preserved : goal.loop-i-preserved
 unfolding first_step by_rates rate
-loop-i-preserved c = (omega arith, most_step _ _ _ _ _ _ c.loop-i.invariant.1 (rw (c.rate-r.ensures, c.own.ensures)) c.larger-scale.ensures)
+loop-i-preserved c = (omega arith, most_step _ _ _ _ _ _ c.loop-i.invariant.1 c.rate-r.ensures c.larger-scale.ensures)
 
 pub returns : goal.returns
 unfolding first_step by_rates rate

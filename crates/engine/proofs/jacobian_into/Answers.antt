@@ -22,7 +22,6 @@ jacobian_row-requires c =
     let n = c.args.n in
     let k = length-vec n (λ j. delta (c.args.state.now ! j)) (omega arith) in record {
       i_lt_places = omega (arith, row_small c.loop-i.i n 16 (omega arith) (omega arith), ap length d, k);
-      answers_len = omega (arith, row_small c.loop-i.i n 16 (omega arith) (omega arith), ap length d, k);
       n_in_bounds = omega (arith, row_small c.loop-i.i n 16 (omega arith) (omega arith), ap length d, k);
     }
 

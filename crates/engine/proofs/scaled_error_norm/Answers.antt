@@ -7,13 +7,13 @@ use Rattle.engine.proofs.scaled_error_norm.Goals as goal
 
 pub loop-i-init : goal.loop-i-init
 unfolding error_norm root_mean ratio
-loop-i-init c = (omega arith, omega arith, sum_first _ _ (rw (c.powi2-sum.ensures, c.ratio.ensures, c.own.ensures)))
+loop-i-init c = (omega arith, omega arith, sum_first _ _ (rw (c.powi2-sum.ensures, c.ratio.ensures)))
 
 pub loop-i-preserved : goal.loop-i-preserved
 unfolding error_norm root_mean ratio
 loop-i-preserved c =
     let sum = c.loop-i.invariant.2 in
-    (omega arith, omega arith, sum_step _ _ _ _ sum (rw (c.powi2-sum-in-loop-i.ensures, c.ratio-r.ensures, c.own-in-loop-i.ensures)) (omega arith))
+    (omega arith, omega arith, sum_step _ _ _ _ sum (rw (c.powi2-sum-in-loop-i.ensures, c.ratio-r.ensures)) (omega arith))
 
 pub int_to_float-n : goal.int_to_float-n
 unfolding error_norm root_mean ratio

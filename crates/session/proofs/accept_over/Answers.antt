@@ -4,27 +4,17 @@ use Rattle.session.specs.declared.Phase.TheVariants.{Waiting}
 use Rattle.session.specs.declared.Wants.TheVariants.{Only}
 use Rattle.session.specs.Tests.{unless}
 use Rattle.session.specs.Calls.{accept_call}
-use Rattle.session.proofs.Tests.{unless_refused}
 use Rattle.session.proofs.Laws.{accept_passes}
 use Rattle.session.proofs.Writes.{passes_any}
 use Rattle.session.proofs.accept_over.Goals as goal
 
-pub accept_fault-fault-requires : goal.accept_fault-fault-requires
-unfolding accept_call unless
-accept_fault-fault-requires c = c.requires.0
-
 pub settle-requires : goal.settle-requires
-unfolding accept_call unless
-settle-requires c =
-    record {
-      figures_len = c.requires;
-      figures_value = passes_any (Only Waiting) _ (accept_passes _ _ (sym c.accept_fault-fault.ensures ∙ c.if-fault-eq0.true)).0;
-    }
+settle-requires c = passes_any (Only Waiting) _ (accept_passes _ _ (sym c.test_accept.ensures ∙ c.in_default.is)).0
 
-pub returns-then-fault-eq0 : goal.returns-then-fault-eq0
+pub returns-in-Err : goal.returns-in-Err
 unfolding accept_call unless
-returns-then-fault-eq0 c = rw (← c.accept_fault-fault.ensures, c.if-fault-eq0.true) c.settle.ensures
+returns-in-Err c = rw (← c.test_accept.ensures, c.in-Err.is, c.refused.ensures)
 
 pub returns : goal.returns
 unfolding accept_call unless
-returns c = rw (← c.accept_fault-fault.ensures, c.refused.ensures) (unless_refused _ _ _ c.if-fault-eq0.false)
+returns c = rw (← c.test_accept.ensures, c.in_default.is) c.settle.ensures

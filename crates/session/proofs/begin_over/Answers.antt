@@ -1,57 +1,47 @@
 -- `session::begin_over` meets its contract. Assumes nothing.
+use native.Mathlib.Omega.{arith}
 use mathlib.Core.Path.{refl, sym, ap, ◌∙◌}
 use Rattle.session.specs.declared.Session.{Session}
-use Rattle.session.specs.Calls.{begun}
-use native.Mathlib.Omega.{arith}
-use Rattle.session.specs.declared.Phase.TheVariants.{Rest}
-use Rattle.session.specs.declared.Wants.TheVariants.{Only}
 use Rattle.session.specs.Figures.{session_of}
-use Rattle.session.proofs.Writes.{typed_passed}
-use Rattle.session.proofs.Bodies.{begin_refused, begin_rests, begin_clear, begin_room, begin_sound, begin_any, begin_shown, begin_six}
+use Rattle.session.specs.Calls.{begun}
+use Rattle.session.proofs.Bodies.{begin_refused, begin_rests, begin_clear, begin_room, begin_sound, begin_any, begin_shown, begin_stopped}
 use Rattle.session.proofs.begin_over.Goals as goal
 
-pub begin_fault-fault-requires : goal.begin_fault-fault-requires
-begin_fault-fault-requires c = c.requires.0
+pub returns-in-Err : goal.returns-in-Err
+returns-in-Err c = begin_refused _ _ _ _ c.args.out.now c.attempt_of-attempt.ensures c.test_begin.ensures c.in-Err.is _ _ c.refused.ensures refl
 
 pub put_attempt-next-requires : goal.put_attempt-next-requires
 put_attempt-next-requires c =
     record {
-      figures_len = c.requires;
-      figures_value = begin_rests _ _ _ _ c.args.out.now c.attempt_of-attempt.ensures c.begin_fault-fault.ensures c.if-fault-eq0.true;
+      figures_len = (c.told-figures, c.told-jacobian);
+      figures_value = begin_rests _ _ _ _ c.args.out.now c.attempt_of-attempt.ensures c.test_begin.ensures c.in_default.is;
       jacobian_value = (unfold session_of in
           begin_clear (session_of c.args.k c.args.figures.now) c.args.step c.args.wish c.args.jacobian.now c.args.out.now c.attempt_of-attempt.ensures
-          c.begin_fault-fault.ensures c.if-fault-eq0.true);
+          c.test_begin.ensures c.in_default.is);
     }
 
-pub show-shown-requires : goal.show-shown-requires
-show-shown-requires c =
+pub show-requires : goal.show-requires
+show-requires c =
     record {
-      figures_len = (
-        omega (arith, c.put_attempt-next.auto.figures, c.requires.0),
-        begin_sound _ _ _ _ c.args.out.now c.attempt_of-attempt.ensures c.begin_fault-fault.ensures c.if-fault-eq0.true _ c.put_attempt-next.ensures,
-      );
+      sound = begin_sound _ _ _ _ c.args.out.now c.attempt_of-attempt.ensures c.test_begin.ensures c.in_default.is _ c.put_attempt-next.ensures.begun;
       out_len = (unfold session_of begun in
           (begin_room (session_of c.args.k c.args.figures.now) c.args.step c.args.wish c.args.jacobian.now c.args.out.now c.attempt_of-attempt.ensures
-          c.begin_fault-fault.ensures c.if-fault-eq0.true
-          ∙ sym (ap (λ (z : Session). z.n) c.put_attempt-next.ensures)));
+          c.test_begin.ensures c.in_default.is
+          ∙ sym (ap (λ (z : Session). z.n) c.put_attempt-next.ensures.begun)));
     }
-
-pub returns-then-shown : goal.returns-then-shown
-returns-then-shown c =
-    begin_shown _ _ _ _ c.args.out.now c.attempt_of-attempt.ensures c.begin_fault-fault.ensures c.if-fault-eq0.true _ c.put_attempt-next.ensures _ _ c.show-shown.ensures c.if-shown.true
 
 pub rest-requires : goal.rest-requires
 rest-requires c =
     record {
-      figures_len = omega (arith, c.put_attempt-next.auto.figures, c.requires.0);
-      figures_value = begin_any _ _ _ _ c.args.out.now c.attempt_of-attempt.ensures c.begin_fault-fault.ensures c.if-fault-eq0.true _ c.put_attempt-next.ensures;
+      figures_len = omega (arith, c.put_attempt-next.auto.figures, c.told-figures);
+      figures_value = begin_any _ _ _ _ c.args.out.now c.attempt_of-attempt.ensures c.test_begin.ensures c.in_default.is _ c.put_attempt-next.ensures.begun;
     }
 
-pub returns-then-fault-eq0 : goal.returns-then-fault-eq0
-returns-then-fault-eq0 c =
-    begin_six _ _ _ _ c.args.out.now c.attempt_of-attempt.ensures c.begin_fault-fault.ensures c.if-fault-eq0.true _ c.put_attempt-next.ensures _ _ c.show-shown.ensures c.if-shown.false
-    (typed_passed _ _ (Only Rest) (begin_rests _ _ _ _ c.args.out.now c.attempt_of-attempt.ensures c.begin_fault-fault.ensures c.if-fault-eq0.true)
-    (record { places = c.requires.0; fit = c.slice_known-1.given })) _ _ c.refused.ensures c.rest.ensures
-
 pub returns : goal.returns
-returns c = begin_refused _ _ _ _ c.args.out.now c.attempt_of-attempt.ensures c.begin_fault-fault.ensures c.if-fault-eq0.false _ _ c.refused-2.ensures refl
+returns c =
+    begin_shown _ _ _ _ c.args.out.now c.attempt_of-attempt.ensures c.test_begin.ensures c.in_default.is _ c.put_attempt-next.ensures.begun _ (c.in-Some.ensures _)
+
+pub returns-in_default-show : goal.returns-in_default-show
+returns-in_default-show c =
+    begin_stopped _ _ _ _ c.args.out.now c.attempt_of-attempt.ensures c.test_begin.ensures c.in_default.is _ c.put_attempt-next.ensures.begun
+    (c.in_default-show.ensures _) c.put_attempt-next.ensures.back _ _ c.refused-in_default-show.ensures c.rest.ensures

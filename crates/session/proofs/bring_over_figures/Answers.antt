@@ -7,10 +7,10 @@ use Rattle.session.proofs.Old.{brought_told}
 use Rattle.session.proofs.bring_over_figures.Goals as goal
 
 pub slice_bounds-put-end : goal.slice_bounds-put-end
-slice_bounds-put-end c = sym (length-take-le absolute_at c.args.old.now (omega (arith, c.requires.0)))
+slice_bounds-put-end c = sym (length-take-le absolute_at c.args.old.now (omega arith))
 
 pub put-requires : goal.put-requires
-put-requires c = omega (arith, c.requires.1, length-take-le absolute_at c.args.old.now (omega (arith, c.requires.0)))
+put-requires c = omega (arith, length-take-le absolute_at c.args.old.now (omega arith))
 
 pub returns : goal.returns
-returns c = λ k e. brought_told k c.args.old.now c.args.figures.now c.requires.0 c.requires.1 e c.copied-absolute.ensures c.put.ensures c.put-2.ensures c.put-3.ensures
+returns c = λ k e. brought_told k c.args.old.now c.args.figures.now c.told-old c.told-figures e c.copied-absolute.ensures c.put.ensures c.put-2.ensures c.put-3.ensures

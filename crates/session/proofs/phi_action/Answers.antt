@@ -1,42 +1,42 @@
 -- `session::phi_action` meets its contract. Assumes nothing.
-use native.Mathlib.Omega.{arith}
-use mathlib.Core.Path.{sym, ◌∙◌}
+use Rattle.std.proofs.Common.{sym, ◌∙◌, arith}
 use Rattle.session.specs.Tests.{unless}
 use Rattle.session.specs.Bare.{phi_call}
-use Rattle.session.proofs.Tests.{unless_refused}
-use Rattle.session.proofs.Laws.{phi_sized}
+use Rattle.session.proofs.Tests.{passed_on}
+use Rattle.session.proofs.Laws.{phi_sized, acted_is, unacted_is}
 use Rattle.session.proofs.phi_action.Goals as goal
 
+pub new-requires : goal.new-requires
+new-requires c = (phi_sized _ _ _ _ _ _ (sym c.test_phi.ensures ∙ c.in_ok-test_phi.was)).sized.small
+
+pub invariant_of-square : goal.invariant_of-square
+invariant_of-square c = record { sized = rw c.new.ensures (phi_sized _ _ _ _ _ _ (sym c.test_phi.ensures ∙ c.in_ok-test_phi.was)).sized }
+
 pub vector-requires : goal.vector-requires
-unfolding phi_call unless
 vector-requires c =
-    let k = phi_sized _ _ _ _ _ _ (sym c.phi_fault-k.ensures ∙ c.if-k-eq0.true) in record {
+    let k = phi_sized _ _ _ _ _ _ (sym c.test_phi.ensures ∙ c.in_ok-test_phi.was) in record {
       n_le_places = k.sized.small;
       x_len = k.inputs;
     }
 
-pub phi_action-action-requires : goal.phi_action-action-requires
-unfolding phi_call unless
-phi_action-action-requires c =
-    let k = phi_sized _ _ _ _ _ _ (sym c.phi_fault-k.ensures ∙ c.if-k-eq0.true) in record {
-      sized = k.sized;
-      le_order = (k.least, k.most);
-    }
+pub phi_action-requires : goal.phi_action-requires
+phi_action-requires c = let k = phi_sized _ _ _ _ _ _ (sym c.test_phi.ensures ∙ c.in_ok-test_phi.was) in (k.least, k.most)
 
 pub copy_out-requires : goal.copy_out-requires
-unfolding phi_call unless
-copy_out-requires c = let k = phi_sized _ _ _ _ _ _ (sym c.phi_fault-k.ensures ∙ c.if-k-eq0.true) in omega (arith, k.places, k.sized.small)
-
-pub returns-then-tally : goal.returns-then-tally
-unfolding phi_call unless
-returns-then-tally c =
-    let k = phi_sized _ _ _ _ _ _ (sym c.phi_fault-k.ensures ∙ c.if-k-eq0.true) in
-    rw (← c.phi_fault-k.ensures, c.if-k-eq0.true, ← c.vector.ensures, ← c.phi_action-action.ensures, c.if-tally.true, c.copy_out.ensures, k.places)
-
-pub returns-then-k-eq0 : goal.returns-then-k-eq0
-unfolding phi_call unless
-returns-then-k-eq0 c = rw (← c.phi_fault-k.ensures, c.if-k-eq0.true, ← c.vector.ensures, ← c.phi_action-action.ensures, c.if-tally.false)
+copy_out-requires c = let k = phi_sized _ _ _ _ _ _ (sym c.test_phi.ensures ∙ c.in_ok-test_phi.was) in omega (arith, k.places, k.sized.small)
 
 pub returns : goal.returns
 unfolding phi_call unless
-returns c = rw (← c.phi_fault-k.ensures) (unless_refused _ _ _ c.if-k-eq0.false)
+returns c =
+    let k = phi_sized _ _ _ _ _ _ (sym c.test_phi.ensures ∙ c.in_ok-test_phi.was) in
+    rw (← c.test_phi.ensures, c.in_ok-test_phi.was, ← c.vector.ensures)
+    (acted_is _ _ _ _ _ (rw c.new.ensures at c.in-Some.ensures) (rw k.places at c.copy_out.ensures))
+
+pub returns-in_default : goal.returns-in_default
+unfolding phi_call unless
+returns-in_default c =
+    rw (← c.test_phi.ensures, c.in_ok-test_phi.was, ← c.vector.ensures) (unacted_is _ _ c.args.out.now _ (rw c.new.ensures at c.in_default.ensures))
+
+pub returns-in_err-test_phi : goal.returns-in_err-test_phi
+unfolding phi_call unless
+returns-in_err-test_phi c = rw (← c.test_phi.ensures, c.in_err-test_phi.was, passed_on _ _ c.from_residual.ensures.1)

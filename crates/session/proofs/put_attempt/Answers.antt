@@ -1,19 +1,21 @@
 -- `session::put_attempt` meets its contract. Assumes nothing.
+use Rattle.session.proofs.Drops.{rested_same}
+use Rattle.session.specs.Calls.{opened, begun, rested}
 use Prim.Native.Nat.{◌≤◌}
 use lib.ListN.{length}
 use native.Mathlib.Omega.{arith}
-use mathlib.Core.Path.{sym}
+use mathlib.Core.Path.{sym, ap, ◌∙◌}
 use lib.ListN.{length-set}
 use lib.Seq.{length-take-le}
 use Rattle.session.specs.declared.Phase.TheVariants.{Rest}
 use Rattle.session.specs.declared.Wants.TheVariants.{Only}
 use Rattle.session.specs.Figures.{session_of}
-use Rattle.session.proofs.Laws.{fault_none}
+use Rattle.session.proofs.Laws.{passed_sound}
 use Rattle.session.proofs.Writes.{typed_passed, begin_is, used_room}
 use Rattle.session.proofs.put_attempt.Goals as goal
 
 pub used_jacobian-used-requires : goal.used_jacobian-used-requires
-used_jacobian-used-requires c = unfold session_of in (fault_none (Only Rest) _ c.requires.figures_value).small
+used_jacobian-used-requires c = unfold session_of in (passed_sound (Only Rest) _ c.requires.figures_value).small
 
 pub bounds-figures-1 : goal.bounds-figures-1
 bounds-figures-1 c = omega (arith, c.requires.figures_len.0)
@@ -47,5 +49,11 @@ shape_of-figures c = omega (arith, c.put.auto.out, length-set c.args.figures.now
 
 pub returns : goal.returns
 returns c =
-    begin_is _ _ c.requires.figures_len.0 (typed_passed _ _ (Only Rest) c.requires.figures_value (record { places = c.requires.figures_len.0; fit = c.slice_known-1.given })) c.requires.figures_value
-    _ _ _ (record { places = c.requires.figures_len.1; fit = c.shared_slice_known-1.given }) c.requires.jacobian_value c.used_jacobian-used.ensures c.put.ensures
+    let passed = c.requires.figures_value in
+    let long = c.requires.figures_len.0 in
+    let typed = typed_passed c.args.k c.args.figures.now (Only Rest) passed (record { places = long; fit = c.slice_known-1.given }) in
+    let next = begin_is _ _ long typed passed _ _ _ (record { places = c.requires.figures_len.1; fit = c.shared_slice_known-1.given })
+    c.requires.jacobian_value c.used_jacobian-used.ensures c.put.ensures in record {
+      begun = next;
+      back = ap rested next ∙ (unfold begun rested opened in rested_same (session_of c.args.k c.args.figures.now) typed passed);
+    }

@@ -4,12 +4,12 @@ use native.Mathlib.Omega.{arith}
 use lib.ListN.{length-set}
 use Rattle.session.specs.declared.Wants.TheVariants.{Any}
 use Rattle.session.specs.Figures.{session_of}
-use Rattle.session.proofs.Laws.{fault_none}
+use Rattle.session.proofs.Laws.{passed_sound}
 use Rattle.session.proofs.Writes.{typed_passed, rest_is, few, short}
 use Rattle.session.proofs.rest.Goals as goal
 
 pub used_jacobian-used-requires : goal.used_jacobian-used-requires
-used_jacobian-used-requires c = unfold session_of in (fault_none Any _ c.requires.figures_value).small
+used_jacobian-used-requires c = unfold session_of in (passed_sound Any _ c.requires.figures_value).small
 
 pub bounds-figures-1 : goal.bounds-figures-1
 bounds-figures-1 c = omega (arith, c.requires.figures_len)

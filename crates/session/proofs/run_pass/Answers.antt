@@ -1,34 +1,19 @@
 -- `session::run_pass` meets its contract. Assumes nothing.
 use mathlib.Core.Path.{sym, ap, ◌∙◌}
+use Rattle.methods.specs.Step.{progress as reached}
 use Rattle.session.specs.Session.{progress, progress_of}
 use Rattle.session.specs.Figures.{session_of}
 use Rattle.session.proofs.Laws.{supplied_few, differenced_few}
 use Rattle.session.proofs.run_pass.Goals as goal
 
-pub supplied-requires : goal.supplied-requires
-unfolding progress progress_of session_of
-supplied-requires c =
-    record {
-      figures_len = c.requires;
-      count_bound = supplied_few _ c.requires.1 c.in-Supplied.is;
-    }
-
-pub differencing-requires : goal.differencing-requires
-unfolding progress progress_of session_of
-differencing-requires c =
-    record {
-      figures_len = c.requires;
-      count_bound = differenced_few _ c.requires.1 c.in-Differenced.is;
-    }
-
 pub returns-in-None : goal.returns-in-None
-unfolding progress progress_of session_of
-returns-in-None c = c.not_allowed.ensures ∙ ap (λ a. progress_of a (session_of c.args.k c.args.figures.now)) (sym c.in-None.is)
+unfolding progress progress_of session_of reached
+returns-in-None c = ap (λ a. progress_of a (session_of c.args.k c.args.figures.now)) (sym c.in-None.is)
 
 pub returns-in-Supplied : goal.returns-in-Supplied
-unfolding progress progress_of session_of
+unfolding progress progress_of session_of reached
 returns-in-Supplied c = c.supplied.ensures ∙ ap (λ a. progress_of a (session_of c.args.k c.args.figures.now)) (sym c.in-Supplied.is)
 
 pub returns-in-Differenced : goal.returns-in-Differenced
-unfolding progress progress_of session_of
+unfolding progress progress_of session_of reached
 returns-in-Differenced c = c.differencing.ensures ∙ ap (λ a. progress_of a (session_of c.args.k c.args.figures.now)) (sym c.in-Differenced.is)

@@ -1,25 +1,24 @@
 -- `session::show` meets its contract. Assumes nothing.
-use native.Mathlib.Omega.{arith}
+use Rattle.std.proofs.Common.{arith}
 use Rattle.session.specs.Figures.{session_of}
-use Rattle.session.proofs.Laws.{show_ok, show_bad}
+use Rattle.session.proofs.Laws.{show_none, show_question, show_done}
 use Rattle.session.proofs.show.Goals as goal
 
-pub run_pass-w-requires : goal.run_pass-w-requires
+pub copy_out-requires : goal.copy_out-requires
 unfolding session_of
-run_pass-w-requires c = c.requires.figures_len
+copy_out-requires c = omega (arith, c.requires.sound.small, c.requires.out_len)
 
-pub copy_if-requires : goal.copy_if-requires
+pub copy_out-requires-in-Done : goal.copy_out-requires-in-Done
 unfolding session_of
-copy_if-requires c = omega (arith, c.requires.figures_len.1.small, c.requires.out_len)
+copy_out-requires-in-Done c = omega (arith, c.requires.sound.small, c.requires.out_len)
 
-pub answer_of-answer-requires : goal.answer_of-answer-requires
-unfolding session_of
-answer_of-answer-requires c = c.requires.figures_len
+pub returns-in_err-x : goal.returns-in_err-x
+returns-in_err-x c = λ old. rw c.from_residual.ensures (show_none old _ _ c.args.out.now _ c.in_err-x.ensures)
 
-pub returns-then-w : goal.returns-then-w
+pub returns-in-Question : goal.returns-in-Question
 unfolding session_of
-returns-then-w c = λ old. show_ok old _ _ _ c.run_pass-w.result _ c.run_pass-w.ensures _ c.if-w.true c.requires.out_len c.copy_if.ensures c.answer_of-answer.ensures
+returns-in-Question c = λ old. show_question old _ _ _ _ _ _ (rw c.in-Question.is at c.in_ok-x.ensures) c.requires.out_len c.copy_out.ensures
 
-pub returns : goal.returns
+pub returns-in-Done : goal.returns-in-Done
 unfolding session_of
-returns c = λ old. show_bad old _ _ _ c.run_pass-w.result _ c.run_pass-w.ensures c.if-w.false c.copy_if.ensures
+returns-in-Done c = λ old. show_done old _ _ _ _ _ _ _ _ _ (rw c.in-Done.is at c.in_ok-x.ensures) c.requires.out_len c.copy_out-in-Done.ensures c.ready_of.ensures

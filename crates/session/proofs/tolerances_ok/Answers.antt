@@ -4,8 +4,7 @@ use Rattle.session.specs.Session.{tolerances_ok}
 use Rattle.session.proofs.tolerances_ok.Goals as goal
 
 pub all_positive-requires : goal.all_positive-requires
-unfolding tolerances_ok
-all_positive-requires c = omega (arith, c.requires.0, c.requires.1)
+all_positive-requires c = omega arith
 
 pub returns : goal.returns
 unfolding tolerances_ok

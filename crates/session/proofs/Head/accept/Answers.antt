@@ -1,18 +1,21 @@
 -- `session::Head::accept` meets its contract. Assumes nothing.
 use native.Mathlib.Omega.{arith}
+use mathlib.Core.Path.{◌≡◌}
 use lib.ListN.{length}
-use Rattle.evaluation.specs.Sizes.{places}
 use Rattle.session.specs.Figures.{FIGURES}
-use Rattle.session.proofs.Bodies.{lent_made, lent_refused, two_long}
+use Rattle.session.proofs.Bodies.{lent_made, lent_refused, right_long, first_wrong, then_wrong}
 use Rattle.session.proofs.Head.accept.Goals as goal
 
-pub accept_over-requires : goal.accept_over-requires
-accept_over-requires c = two_long (length c.args.figures.now) FIGURES (length c.args.derivative.now) places c.if-figures-derivative.true
-
-pub returns-then-figures-derivative : goal.returns-then-figures-derivative
-returns-then-figures-derivative c =
-    lent_made _ _ c.if-figures-derivative.true _
-    (omega (arith, c.accept_over.auto.figures, (two_long (length c.args.figures.now) FIGURES (length c.args.derivative.now) places c.if-figures-derivative.true).0)) _ c.accept_over.ensures
-
 pub returns : goal.returns
-returns c = lent_refused _ _ c.if-figures-derivative.false _ c.refused.ensures
+returns c =
+    let w = c.in-Some-as_mut_array.ensures.cases in
+    let v = c.in-Some.ensures.cases in
+    let right = right_long _ _ _ _ w.long v.long in
+    let long : length c.accept_over.new.figures ≡ FIGURES = omega (arith, c.accept_over.auto.figures, w.long) in
+    lent_made _ _ right _ long _ (rw (w.same, v.same) at c.accept_over.ensures)
+
+pub returns-in_default : goal.returns-in_default
+returns-in_default c = lent_refused _ _ (then_wrong _ _ _ c.in_default.ensures.cases) _ c.refused.ensures
+
+pub returns-in_default-as_mut_array : goal.returns-in_default-as_mut_array
+returns-in_default-as_mut_array c = lent_refused _ _ (first_wrong _ _ _ c.in_default-as_mut_array.ensures.cases) _ c.refused-in_default-as_mut_array.ensures

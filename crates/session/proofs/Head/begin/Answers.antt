@@ -1,18 +1,21 @@
 -- `session::Head::begin` meets its contract. Assumes nothing.
 use native.Mathlib.Omega.{arith}
+use mathlib.Core.Path.{◌≡◌}
 use lib.ListN.{length}
-use Rattle.session.specs.Session.{jacobian_room}
 use Rattle.session.specs.Figures.{FIGURES}
-use Rattle.session.proofs.Bodies.{lent_filled, lent_unfilled, two_long}
+use Rattle.session.proofs.Bodies.{lent_filled, lent_unfilled, right_long, first_wrong, then_wrong}
 use Rattle.session.proofs.Head.begin.Goals as goal
 
-pub begin_over-requires : goal.begin_over-requires
-begin_over-requires c = two_long (length c.args.figures.now) FIGURES (length c.args.jacobian.now) jacobian_room c.if-figures-jacobian.true
-
-pub returns-then-figures-jacobian : goal.returns-then-figures-jacobian
-returns-then-figures-jacobian c =
-    lent_filled _ _ c.if-figures-jacobian.true _
-    (omega (arith, c.begin_over.auto, (two_long (length c.args.figures.now) FIGURES (length c.args.jacobian.now) jacobian_room c.if-figures-jacobian.true).0)) _ _ _ c.begin_over.ensures
-
 pub returns : goal.returns
-returns c = lent_unfilled _ _ c.if-figures-jacobian.false _ _ c.refused.ensures
+returns c =
+    let w = c.in-Some-as_mut_array.ensures.cases in
+    let v = c.in-Some.ensures.cases in
+    let right = right_long _ _ _ _ w.long v.long in
+    let long : length c.begin_over.new.figures ≡ FIGURES = omega (arith, c.begin_over.auto.figures, w.long) in
+    lent_filled _ _ right _ long _ _ _ (rw (w.same, v.same) at c.begin_over.ensures)
+
+pub returns-in_default : goal.returns-in_default
+returns-in_default c = lent_unfilled _ _ (then_wrong _ _ _ c.in_default.ensures.cases) _ _ c.refused.ensures
+
+pub returns-in_default-as_mut_array : goal.returns-in_default-as_mut_array
+returns-in_default-as_mut_array c = lent_unfilled _ _ (first_wrong _ _ _ c.in_default-as_mut_array.ensures.cases) _ _ c.refused-in_default-as_mut_array.ensures

@@ -5,11 +5,10 @@ use Rattle.session.specs.Calls.{drop_call}
 use Rattle.session.proofs.Bodies.{lent_made, lent_refused}
 use Rattle.session.proofs.Head.drop.Goals as goal
 
-pub drop_over-requires : goal.drop_over-requires
-drop_over-requires c = c.if-figures-eq-FIGURES.true
-
-pub returns-then-figures-eq-FIGURES : goal.returns-then-figures-eq-FIGURES
-returns-then-figures-eq-FIGURES c = lent_made _ _ (eq-eqb _ _ c.if-figures-eq-FIGURES.true) _ (omega (arith, c.drop_over.auto.figures, c.if-figures-eq-FIGURES.true)) drop_call c.drop_over.ensures
-
 pub returns : goal.returns
-returns c = lent_refused _ _ (ne_eqb _ _ c.if-figures-eq-FIGURES.false) drop_call c.refused.ensures
+returns c =
+    let w = c.in-Some.ensures.cases in
+    lent_made _ _ (eq-eqb _ _ w.long) _ (omega (arith, c.drop_over.auto.figures, w.long)) drop_call (rw w.same at c.drop_over.ensures)
+
+pub returns-in_default : goal.returns-in_default
+returns-in_default c = lent_refused _ _ (ne_eqb _ _ c.in_default.ensures.cases) drop_call c.refused.ensures

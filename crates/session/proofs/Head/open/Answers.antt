@@ -1,31 +1,39 @@
 -- `session::Head::open` meets its contract. Assumes nothing.
-use mathlib.Core.Path.{ap}
+use mathlib.Core.Path.{◌≡◌, ap}
 use native.Mathlib.Omega.{arith}
 use lib.ListN.{length}
-use Rattle.evaluation.specs.Sizes.{places}
+use borrow.Author.Tests.{eq-eqb}
 use Rattle.session.specs.declared.Head.{Head}
 use Rattle.session.specs.Figures.{FIGURES}
-use Rattle.session.proofs.Bodies.{lent-opened, lent-unopened, five_long}
+use Rattle.session.proofs.Bodies.{lent-opened, lent-unopened, left_wrong, first_wrong, then_wrong}
 use Rattle.session.proofs.Head.open.Goals as goal
+use Rattle.session.proofs.Head.open.Goals.{in_default-via-in-Some+in-Some+in-Some+in_default, in_default-via-in-Some+in-Some+in_default, in_default-via-in-Some+in_default, in_default-via-in_default}
 
 pub open_over-requires : goal.open_over-requires
-open_over-requires c =
-    let a = c.args in
-    let long =
-    five_long (length a.figures.now) (length a.absolute.now) (length a.state.now) (length a.derivative.now)
-    (length a.previous.now) FIGURES places c.if-figures-absolute.true in record {
-      figures_len = long.0;
-      absolute_len = long.1;
-      attempt_value = (ap (λ (k : Head). k.attempt) c.unopened-k.ensures, ap (λ (k : Head). k.count) c.unopened-k.ensures);
-    }
-
-pub returns-then-figures-absolute : goal.returns-then-figures-absolute
-returns-then-figures-absolute c =
-    let a = c.args in
-    let long =
-    five_long (length a.figures.now) (length a.absolute.now) (length a.state.now) (length a.derivative.now)
-    (length a.previous.now) FIGURES places c.if-figures-absolute.true in
-    lent-opened c.unopened-k.result _ c.if-figures-absolute.true _ (omega (arith, c.open_over.auto.figures, long.0)) _ (rw c.unopened-k.ensures at c.open_over.ensures)
+open_over-requires c = (ap (λ (k : Head). k.attempt) c.unopened-k.ensures, ap (λ (k : Head). k.count) c.unopened-k.ensures)
 
 pub returns : goal.returns
-returns c = lent-unopened _ _ c.if-figures-absolute.false _ c.no_head.ensures c.refused.ensures
+returns c =
+    let w = c.in-Some.ensures.cases in
+    let v = c.in-Some-Some-Some-Some in
+    let a = v.ensures.cases in
+    let u = v.ensures'.cases in
+    let f = v.ensures''.cases in
+    let g = v.ensures'''.cases in
+    let long : length c.open_over.new.figures ≡ FIGURES = omega (arith, c.open_over.auto.figures, w.long) in
+    lent-opened c.unopened-k.result _ (rw (eq-eqb _ _ w.long, eq-eqb _ _ a.long, eq-eqb _ _ u.long, eq-eqb _ _ f.long, eq-eqb _ _ g.long)) _ long _
+    (rw (c.unopened-k.ensures, a.same, u.same, f.same, g.same) at c.open_over.ensures)
+
+pub returns-in_default : goal.returns-in_default
+returns-in_default c =
+    elim c.in_default.branch [
+      | in_default-via-in-Some+in-Some+in-Some+in_default w ↦ lent-unopened _ _ (then_wrong _ _ _ w.in_default.ensures'''.cases) _ c.no_head.ensures c.refused.ensures
+      | in_default-via-in-Some+in-Some+in_default w ↦ lent-unopened _ _ (left_wrong _ _ (then_wrong _ _ _ w.in_default.ensures''.cases)) _ c.no_head.ensures c.refused.ensures
+      | in_default-via-in-Some+in_default w ↦ lent-unopened _ _ (left_wrong _ _ (left_wrong _ _ (then_wrong _ _ _ w.in_default.ensures'.cases))) _ c.no_head.ensures c.refused.ensures
+      | in_default-via-in_default w ↦ lent-unopened _ _ (left_wrong _ _ (left_wrong _ _ (left_wrong _ _ (then_wrong _ _ _ w.in_default.ensures.cases)))) _ c.no_head.ensures c.refused.ensures
+    ]
+
+pub returns-in_default-as_mut_array : goal.returns-in_default-as_mut_array
+returns-in_default-as_mut_array c =
+    lent-unopened _ _ (left_wrong _ _ (left_wrong _ _ (left_wrong _ _ (first_wrong _ _ _ c.in_default-as_mut_array.ensures.cases)))) _ c.no_head-in_default-as_mut_array.ensures
+    c.refused-in_default-as_mut_array.ensures

@@ -1,18 +1,21 @@
 -- `session::Head::supply` meets its contract. Assumes nothing.
 use native.Mathlib.Omega.{arith}
+use mathlib.Core.Path.{◌≡◌}
 use lib.ListN.{length}
-use Rattle.evaluation.specs.Sizes.{places}
 use Rattle.session.specs.Figures.{FIGURES}
-use Rattle.session.proofs.Bodies.{lent_filled, lent_unfilled, two_long}
+use Rattle.session.proofs.Bodies.{lent_filled, lent_unfilled, right_long, first_wrong, then_wrong}
 use Rattle.session.proofs.Head.supply.Goals as goal
 
-pub supply_over-requires : goal.supply_over-requires
-supply_over-requires c = two_long (length c.args.figures.now) FIGURES (length c.args.answer.now) places c.if-figures-answer.true
-
-pub returns-then-figures-answer : goal.returns-then-figures-answer
-returns-then-figures-answer c =
-    lent_filled _ _ c.if-figures-answer.true _
-    (omega (arith, c.supply_over.auto, (two_long (length c.args.figures.now) FIGURES (length c.args.answer.now) places c.if-figures-answer.true).0)) _ _ _ c.supply_over.ensures
-
 pub returns : goal.returns
-returns c = lent_unfilled _ _ c.if-figures-answer.false _ _ c.refused.ensures
+returns c =
+    let w = c.in-Some-as_mut_array.ensures.cases in
+    let v = c.in-Some.ensures.cases in
+    let right = right_long _ _ _ _ w.long v.long in
+    let long : length c.supply_over.new.figures ≡ FIGURES = omega (arith, c.supply_over.auto.figures, w.long) in
+    lent_filled _ _ right _ long _ _ _ (rw (w.same, v.same) at c.supply_over.ensures)
+
+pub returns-in_default : goal.returns-in_default
+returns-in_default c = lent_unfilled _ _ (then_wrong _ _ _ c.in_default.ensures.cases) _ _ c.refused.ensures
+
+pub returns-in_default-as_mut_array : goal.returns-in_default-as_mut_array
+returns-in_default-as_mut_array c = lent_unfilled _ _ (first_wrong _ _ _ c.in_default-as_mut_array.ensures.cases) _ _ c.refused-in_default-as_mut_array.ensures

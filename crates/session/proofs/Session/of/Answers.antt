@@ -4,4 +4,4 @@ use Rattle.session.proofs.Session.of.Goals as goal
 
 pub returns : goal.returns
 unfolding session_of
-returns c = rw (c.answers_at-answers.ensures, c.matrix_at-jacobian.ensures, c.vector_at-previous.ensures, c.vector_at-derivative.ensures, c.vector_at-state.ensures, c.vector_at-absolute.ensures)
+returns c = rw (c.part-answers.ensures, c.part-jacobian.ensures, c.part-previous.ensures, c.part-derivative.ensures, c.part-state.ensures, c.part-absolute.ensures)

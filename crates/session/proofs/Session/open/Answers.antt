@@ -1,17 +1,10 @@
 -- `session::Session::open` meets its contract. Assumes nothing.
-use borrow.Author.Rules.{rules}
 use mathlib.Core.Path.{ap, ◌∙◌}
 use Rattle.session.specs.declared.Head.{Head}
 use Rattle.session.proofs.Session.open.Goals as goal
 
 pub open_over-left-requires : goal.open_over-left-requires
-open_over-left-requires c =
-    let absolute = c.well_formed.1.1.1.1.1.1.0.1.0.1 in
-    let previous = c.well_formed.1.1.1.1.1.1.1.1.0.1.0.1 in record {
-      figures_len = search rules;
-      absolute_len = (absolute, search rules, search rules, previous);
-      attempt_value = (ap (λ (k : Head). k.attempt) c.unopened-k.ensures, ap (λ (k : Head). k.count) c.unopened-k.ensures);
-    }
+open_over-left-requires c = (ap (λ (k : Head). k.attempt) c.unopened-k.ensures, ap (λ (k : Head). k.count) c.unopened-k.ensures)
 
 pub returns : goal.returns
 returns c = c.given_back.ensures ∙ (rw c.unopened-k.ensures at c.open_over-left.ensures)

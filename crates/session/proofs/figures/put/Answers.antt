@@ -1,15 +1,17 @@
 -- `session::figures::put` meets its contract. Assumes nothing.
 use native.Mathlib.Omega.{arith}
-use mathlib.Core.Path.{refl}
-use lib.ListN.{length-set}
-use Rattle.loops.proofs.Loops.{stores_none, stores_step, stores_end}
+use mathlib.Core.Path.{ap, ◌∙◌}
+use mathlib.Core.List.{List}
+use Prim.Native.Nat.{◌+◌, ◌-◌}
+use lib.Ieee.{Float}
+use lib.ListN.{length}
+use borrow.Rule.Slice.PartMut.{put_mid}
+use Rattle.session.proofs.Inverse.{put_in}
 use Rattle.session.proofs.figures.put.Goals as goal
 
-pub loop-i-init : goal.loop-i-init
-loop-i-init c = (omega arith, omega arith, refl, stores_none _ _ _)
-
-pub loop-i-preserved : goal.loop-i-preserved
-loop-i-preserved c = (omega arith, omega arith, simp length-set (omega arith), stores_step _ _ _ _ _ c.loop-i.invariant.3)
-
 pub returns : goal.returns
-returns c = stores_end _ _ _ _ _ _ c.loop-i.invariant.3 (omega arith)
+returns c =
+    let at = c.args.at in
+    let x = c.args.x.now in
+    ap (λ (l : List Float). put_mid at (at + length x - at) c.args.out.now l) c.copy_from_slice.ensures.after
+    ∙ put_in x c.args.out.now at (at + length x - at) (omega arith) (omega arith)

@@ -1,15 +1,22 @@
 -- `session::figures::wipe` meets its contract. Assumes nothing.
 use native.Mathlib.Omega.{arith}
-use mathlib.Core.Path.{refl}
-use lib.ListN.{length-set}
-use Rattle.loops.proofs.Loops.{stores_none, stores_step, stores_end}
+use mathlib.Core.Path.{◌≡◌, ap, ◌∙◌}
+use mathlib.Core.List.{List}
+use Prim.Native.Nat.{ℕ, ◌+◌, ◌-◌}
+use lib.Ieee.{Float}
+use lib.ListN.{replicate}
+use Rattle.float.specs.Arith.{zero+}
+use borrow.Rule.Slice.PartMut.{put_mid}
+use Rattle.session.proofs.Inverse.{put_each}
+use Rattle.session.proofs.Parts.{slice_long}
 use Rattle.session.proofs.figures.wipe.Goals as goal
 
-pub loop-i-init : goal.loop-i-init
-loop-i-init c = (omega arith, refl, stores_none _ _ _)
-
-pub loop-i-preserved : goal.loop-i-preserved
-loop-i-preserved c = (omega arith, simp length-set (omega arith), stores_step _ _ _ _ _ c.loop-i.invariant.2)
-
 pub returns : goal.returns
-returns c = stores_end _ _ _ _ _ _ c.loop-i.invariant.2 (omega arith)
+returns c =
+    let at = c.args.at in
+    let n = c.args.n in
+    let m = at + n - at in
+    let e : m ≡ n = omega arith in
+    ap (λ (l : List Float). put_mid at m c.args.out.now l) (c.fill.ensures.after (λ y e. e))
+    ∙ ap (λ (k : ℕ). put_mid at m c.args.out.now (replicate k zero+)) (slice_long c.args.out.now at m (omega arith) ∙ e)
+    ∙ put_each zero+ c.args.out.now at m n e (omega arith)

@@ -6,7 +6,7 @@ use Rattle.session.proofs.places.clear_answers.Goals as goal
 pub blank_answers-requires : goal.blank_answers-requires
 blank_answers-requires c =
     record {
-      x_len = omega arith;
+      sizes = omega arith;
       x_value = c.requires.x_value c.if-calm.true;
     }
 

@@ -6,12 +6,12 @@ use Rattle.session.proofs.places.clear_answers_each.Goals as goal
 
 pub loop-i-init : goal.loop-i-init
 unfolding clear_answers
-loop-i-init c = (omega arith, omega arith, every_none _)
+loop-i-init c = (omega arith, every_none _)
 
 pub loop-i-preserved : goal.loop-i-preserved
 unfolding clear_answers
-loop-i-preserved c = (omega arith, omega arith, every_step _ _ _ _ c.loop-i.invariant.2 (rw c.plus_zero.ensures))
+loop-i-preserved c = (omega arith, every_step _ _ _ _ c.loop-i.invariant.1 (rw c.plus_zero.ensures))
 
 pub returns : goal.returns
 unfolding clear_answers
-returns c = every_end _ _ _ _ c.loop-i.invariant.2 (omega arith)
+returns c = every_end _ _ _ _ c.loop-i.invariant.1 (omega arith)

@@ -1,0 +1,15 @@
+-- `session::test_accept` meets its contract. Assumes nothing.
+use mathlib.Core.Path.{◌∙◌}
+use Rattle.session.proofs.Tests.{passed_on}
+use Rattle.session.specs.Calls.{accept_tests}
+use Rattle.session.specs.Figures.{session_of}
+use Rattle.session.proofs.Laws.{session_then, session_fails}
+use Rattle.session.proofs.test_accept.Goals as goal
+
+pub returns-in_err-test_session : goal.returns-in_err-test_session
+unfolding accept_tests session_of
+returns-in_err-test_session c = passed_on _ _ c.from_residual.ensures.1 ∙ session_fails _ _ _ c.test_session.ensures c.in_err-test_session.was
+
+pub returns : goal.returns
+unfolding accept_tests session_of
+returns c = session_then _ _ _ c.test_session.ensures c.in_ok-test_session.was c.test_vector.ensures
