@@ -27,24 +27,24 @@ unfolding scheme_of
 scheme_kept x h = rw (lt-ltb _ _ h)
 
 history_kept : (h : History) → history_of (history_number h) ≡ h
-unfolding history_of history_number
+unfolding history_of
 history_kept Missing = refl
 history_kept Held = refl
 
 attempt_kept : (a : Attempt) → attempt_of (attempt_number a) ≡ a
-unfolding attempt_of attempt_number
+unfolding attempt_of
 attempt_kept None = refl
 attempt_kept Supplied = refl
 attempt_kept Differenced = refl
 
 history_back : (x : ℕ) → x ≤ 1 → history_number (history_of x) ≡ x
-unfolding history_of history_number
+unfolding history_of
 history_back zero h = refl
 history_back (suc zero) h = refl
 history_back (suc (suc x)) h = absurd (omega (arith, h))
 
 attempt_back : (x : ℕ) → x ≤ 2 → attempt_number (attempt_of x) ≡ x
-unfolding attempt_of attempt_number
+unfolding attempt_of
 attempt_back zero h = refl
 attempt_back (suc zero) h = refl
 attempt_back (suc (suc zero)) h = refl

@@ -1,6 +1,8 @@
 -- A session's image: its head, as words, and the figures that it crosses to other programs as, and what is told of an answer. Definitions only.
 use Rattle.std.specs.Prelude.{ℕ, ◌+◌, ◌≤◌, ◌<◌, ◌≡◌, cond, List, [], ◌∷◌, ltb, eqb, Float, length, get_or}
 use Rattle.image.specs.declared.Reply.{Reply}
+use Rattle.image.specs.declared.Outcome.{Outcome}
+use Rattle.image.specs.declared.Outcome.TheVariants as outcome
 use Rattle.session.specs.Values.{Values}
 use Rattle.session.specs.declared.Session.{Session}
 use Rattle.session.specs.declared.Head.{Head}
@@ -78,11 +80,11 @@ attempt_of x = cond (eqb x 0) None (cond (eqb x 1) Supplied Differenced)
 unfoldable pub wish_of : ℕ → Wish
 wish_of x = cond (eqb x 0) Difference Given
 
-unfoldable pub history_number : History → ℕ
+abbrev pub history_number : History → ℕ
 history_number Missing = 0
 history_number Held = 1
 
-unfoldable pub attempt_number : Attempt → ℕ
+abbrev pub attempt_number : Attempt → ℕ
 attempt_number None = 0
 attempt_number Supplied = 1
 attempt_number Differenced = 2
@@ -130,6 +132,16 @@ pub record Inverse : Type 0 where
 
 -- ---- what is told of an answer
 
+-- an outcome's number
+abbrev pub outcome_number : Outcome → ℕ
+outcome_number outcome.Refused = 0
+outcome_number outcome.Ask = 1
+outcome_number outcome.Ready = 2
+outcome_number outcome.Resting = 3
+outcome_number outcome.FirstStep = 4
+outcome_number outcome.Filled = 5
+outcome_number outcome.Norm = 6
+
 -- a reply's fields
 abbrev pub fields : Reply → Values
-fields r = record { outcome = r.outcome; refusal = r.refusal; figure = r.figure; counts = r.counts }
+fields r = record { outcome = outcome_number r.outcome; refusal = r.refusal; figure = r.figure; counts = r.counts }

@@ -5,12 +5,16 @@
 // differenced, a wish above 1 as a Jacobian that is given. n and count are taken as they are.
 #![tactic(auto)]
 
-ghost use Rattle.std.specs.Prelude.{◌≡◌, length};
-ghost use Rattle.image.specs.Image.{VECTOR, NUMBERS};
-ghost use Rattle.image.specs.Image.{scheme_of, history_of, attempt_of, wish_of, history_number, attempt_number, head_in, packed, fields};
+ghost use Rattle.std.specs.Prelude.{Ok, ◌≡◌};
+ghost use Rattle.image.specs.Image.{scheme_of, history_of, attempt_of, wish_of, head_in, packed, outcome_number, fields};
 ghost use Rattle.session.specs.Values.{figured, values_of};
 
-use session::{Answer, Attempt, Head, History, Wish};
+use session::{Answer, Attempt, Head, History, Refusal, Wish};
+// Among the figures; and how many figures there are, today and in the layout before request 1.
+pub use session::{
+    ABSOLUTE_AT, ANSWERS_AT, DERIVATIVE_AT, FIGURES, JACOBIAN_AT, OLD_FIGURES, PREVIOUS_AT,
+    RELATIVE_AT, STATE_AT, STEP_AT, TIME_AT,
+};
 
 // ---- how many there are, and where each field stands: behind the one before it
 
@@ -34,30 +38,6 @@ pub const COUNT_AT: usize = ATTEMPT_AT + 1;
 
 pub const NUMBERS: usize = COUNT_AT + 1;
 
-// Among the figures.
-pub const TIME_AT: usize = session::TIME_AT;
-
-pub const STEP_AT: usize = session::STEP_AT;
-
-pub const RELATIVE_AT: usize = session::RELATIVE_AT;
-
-pub const ABSOLUTE_AT: usize = session::ABSOLUTE_AT;
-
-pub const STATE_AT: usize = session::STATE_AT;
-
-pub const DERIVATIVE_AT: usize = session::DERIVATIVE_AT;
-
-pub const PREVIOUS_AT: usize = session::PREVIOUS_AT;
-
-pub const JACOBIAN_AT: usize = session::JACOBIAN_AT;
-
-pub const ANSWERS_AT: usize = session::ANSWERS_AT;
-
-pub const FIGURES: usize = session::FIGURES;
-
-// Of the layout before request 1.
-pub const OLD_FIGURES: usize = session::OLD_FIGURES;
-
 // The bytes that an image is saved as: one for each number, eight for each figure.
 pub const BYTES: usize = NUMBERS + 8 * FIGURES;
 
@@ -75,25 +55,30 @@ pub const COUNTS: usize = 3;
 
 pub const WORDS: usize = COUNTS_AT + COUNTS;
 
-// The outcomes' numbers.
-pub const REFUSED: u8 = 0;
+// What an answer is; each has the number of its place, from 0 on.
+#[derive(Clone, Copy, Debug, PartialEq, Eq)]
+pub enum Outcome {
+    Refused,
+    Ask,
+    Ready,
+    Resting,
+    FirstStep,
+    Filled,
+    Norm,
+}
 
-pub const ASK: u8 = 1;
+impl From<Outcome> for u8 {
+    ghost from_gives = { λ outcome number. number ≡ outcome_number outcome };
 
-pub const READY: u8 = 2;
-
-pub const RESTING: u8 = 3;
-
-pub const FIRST_STEP: u8 = 4;
-
-pub const FILLED: u8 = 5;
-
-pub const NORM: u8 = 6;
+    fn from(outcome: Outcome) -> u8 {
+        outcome as u8
+    }
+}
 
 // What is told of an answer: the outcome, the refusal's number (0 for none), the figure that it carries, and the counts.
 #[derive(Clone, Copy)]
 pub struct Reply {
-    pub outcome: u8,
+    pub outcome: Outcome,
     pub refusal: u8,
     pub figure: f64,
     pub counts: [u32; COUNTS],
@@ -101,149 +86,125 @@ pub struct Reply {
 
 // ---- enums as numbers
 
+// Kept: no `From` for session's enums may stand in another crate than theirs; the first is a `min` that says what a scheme is.
+#[tactic(auto, unfolding(crate::specs::Image::scheme_of))]
 pub fn scheme_of(x: u64) -> u8
     ensures { result ≡ scheme_of x }
 {
-    if x < 256 { x as u8 } else { 255 }
+    u8::try_from(x).unwrap_or(255)
 }
 
+#[tactic(auto, unfolding(crate::specs::Image::history_of))]
 pub fn history_of(x: u64) -> History
     ensures { result ≡ history_of x }
 {
-    if x == 0 {
-        History::Missing
-    } else {
-        History::Held
+    match x {
+        0 => History::Missing,
+        _ => History::Held,
     }
 }
 
+#[tactic(auto, unfolding(crate::specs::Image::attempt_of))]
 fn attempt_of(x: u64) -> Attempt
     ensures { result ≡ attempt_of x }
 {
-    if x == 0 {
-        return Attempt::None;
-    }
-    if x == 1 {
-        Attempt::Supplied
-    } else {
-        Attempt::Differenced
+    match x {
+        0 => Attempt::None,
+        1 => Attempt::Supplied,
+        _ => Attempt::Differenced,
     }
 }
 
+#[tactic(auto, unfolding(crate::specs::Image::wish_of))]
 pub fn wish_of(x: u64) -> Wish
     ensures { result ≡ wish_of x }
 {
-    if x == 0 {
-        Wish::Difference
-    } else {
-        Wish::Given
+    match x {
+        0 => Wish::Difference,
+        _ => Wish::Given,
     }
-}
-
-fn history_number(h: History) -> u64
-    ensures { result ≡ history_number h }
-{
-    match h {
-        History::Missing => 0,
-        History::Held => 1,
-    }
-}
-
-fn attempt_number(a: Attempt) -> u64
-    ensures { result ≡ attempt_number a }
-{
-    match a {
-        Attempt::None => 0,
-        Attempt::Supplied => 1,
-        Attempt::Differenced => 2,
-    }
-}
-
-// ---- a vector that is lent
-
-// All of x, as a vector.
-pub fn vector_of(x: &[f64]) -> [f64; VECTOR]
-    requires { length x.now ≡ VECTOR }
-    ensures { result ≡ x.now }
-{
-    let mut out = [0.0; VECTOR];
-    for i in 0..VECTOR {
-        out[i] = x[i];
-    }
-    out
 }
 
 // ---- a head as words
 
 // The head that the words hold.
-pub fn head_in(words: &[u64]) -> Head
-    requires { length words.now ≡ NUMBERS }
+#[tactic(auto, unfolding(crate::specs::Image::head_in))]
+pub fn head_in(words: &[u64; NUMBERS]) -> Head
     ensures { result ≡ head_in words.now }
 {
-    let scheme = scheme_of(words[SCHEME_AT]);
-    let n = words[N_AT] as usize;
-    let history = history_of(words[HISTORY_AT]);
-    let attempt = attempt_of(words[ATTEMPT_AT]);
-    let count = words[COUNT_AT] as usize;
+    let [scheme, n, history, attempt, count] = *words;
     Head {
-        scheme,
-        n,
-        history,
-        attempt,
-        count,
+        scheme: scheme_of(scheme),
+        n: n as usize,
+        history: history_of(history),
+        attempt: attempt_of(attempt),
+        count: count as usize,
     }
 }
 
-// A head into the words.
-pub fn put_numbers(k: Head, words: &mut [u64])
-    requires { length words.old ≡ NUMBERS }
-    ensures { words.new ≡ packed k }
+// The words that hold a head.
+#[tactic(auto, unfolding(crate::specs::Image::packed))]
+pub fn numbers_of(k: Head) -> [u64; NUMBERS]
+    ensures { result ≡ packed k }
 {
-    let history = k.history;
-    let attempt = k.attempt;
-    words[SCHEME_AT] = k.scheme as u64;
-    words[N_AT] = k.n as u64;
-    words[HISTORY_AT] = history_number(history);
-    words[ATTEMPT_AT] = attempt_number(attempt);
-    words[COUNT_AT] = k.count as u64;
+    [
+        k.scheme as u64,
+        k.n as u64,
+        k.history as u64,
+        k.attempt as u64,
+        k.count as u64,
+    ]
 }
 
 // ---- what is told
 
-fn plain(outcome: u8, figure: f64) -> Reply
-    ensures { fields result ≡ figured outcome «figure» }
+// An outcome that carries a figure at the most.
+#[tactic(auto, unfolding(session::specs::Values::figured))]
+fn figured(outcome: Outcome, figure: f64) -> Reply
+    ensures { fields result ≡ figured (outcome_number outcome) «figure» }
 {
     Reply {
-        outcome: outcome,
+        outcome,
         refusal: 0,
-        figure: figure,
+        figure,
         counts: [0; COUNTS],
     }
 }
 
-pub fn reply_of(answer: Answer) -> Reply
-    ensures { fields result ≡ values_of answer }
+// What is told of an answer that is no refusal.
+#[tactic(auto, unfolding(session::specs::Values::figured, session::specs::Values::values_of))]
+fn told(answer: Answer) -> Reply
+    ensures { fields result ≡ values_of (Ok answer) }
 {
     match answer {
-        Answer::Ask(time) => plain(ASK, time),
+        Answer::Ask(time) => figured(Outcome::Ask, time),
         Answer::Ready(norm, rhs, jacobians, products) => Reply {
-            outcome: READY,
+            outcome: Outcome::Ready,
             refusal: 0,
             figure: norm,
             counts: [rhs, jacobians, products],
         },
-        Answer::Resting => plain(RESTING, 0.0),
-        Answer::FirstStep(step) => plain(FIRST_STEP, step),
+        Answer::Resting => figured(Outcome::Resting, 0.0),
+        Answer::FirstStep(step) => figured(Outcome::FirstStep, step),
         Answer::Filled(terms, squarings) => Reply {
-            outcome: FILLED,
+            outcome: Outcome::Filled,
             refusal: 0,
             figure: 0.0,
             counts: [terms, squarings, 0],
         },
-        Answer::Norm(norm) => plain(NORM, norm),
-        Answer::Refused(k) => Reply {
-            outcome: REFUSED,
-            refusal: k,
+        Answer::Norm(norm) => figured(Outcome::Norm, norm),
+    }
+}
+
+#[tactic(auto, unfolding(session::specs::Values::figured, session::specs::Values::values_of))]
+pub fn reply_of(answer: Result<Answer, Refusal>) -> Reply
+    ensures { fields result ≡ values_of answer }
+{
+    match answer {
+        Ok(answer) => told(answer),
+        Err(refusal) => Reply {
+            outcome: Outcome::Refused,
+            refusal: u8::from(refusal),
             figure: 0.0,
             counts: [0; COUNTS],
         },

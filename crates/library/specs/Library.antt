@@ -1,11 +1,12 @@
 -- What a call for programs in other languages leaves in the slices that it is lent. Definitions only.
-use Rattle.std.specs.Prelude.{ℕ, ◌≡◌, Bool, true, false, cond, ◌&&◌, List, [], ◌∷◌, eqb, Float, length}
+use Rattle.std.specs.Prelude.{ℕ, ◌≡◌, Bool, true, false, cond, ◌&&◌, List, [], ◌∷◌, eqb, Float, length, Result}
 use Rattle.session.specs.Figures.{FIGURES}
 use Rattle.session.specs.Old.{old_figures, old_session_of, brought_over}
 use Rattle.image.specs.Image.{VECTOR, NUMBERS, WORDS, head_in, unpacked, packed_numbers, packed_figures}
 use Rattle.session.specs.declared.Session.{Session}
 use Rattle.session.specs.declared.Told.{Told}
 use Rattle.session.specs.declared.Answer.{Answer}
+use Rattle.session.specs.declared.Refusal.{Refusal}
 use Rattle.session.specs.Values.{Values, values_of, is_refused}
 use Rattle.session.specs.Calls.{Outcome}
 use Rattle.session.specs.Bare.{Bare}
@@ -62,7 +63,7 @@ abbrev pub words_of : Values → List ℕ
 words_of v = v.outcome ∷ v.refusal ∷ v.counts
 
 -- the answer, in words and told
-pub record Said (answer : Answer) (after : Room) : Type 0 where
+pub record Said (answer : Result Answer Refusal) (after : Room) : Type 0 where
   pub words : after.words ≡ words_of (values_of answer)
   pub told : after.told ≡ (values_of answer).figure ∷ []
 
@@ -121,11 +122,11 @@ CallLent fits call code before after out out' =
     Crossing (fits && fitting before) code (BackLent (call (session_in before) out) before after out') ((after ≡ before) × (out' ≡ out))
 
 -- a call that only tells
-abbrev pub Ask : Bool → (Session → Answer) → ℕ → Slices → Room → Type 0
+abbrev pub Ask : Bool → (Session → Result Answer Refusal) → ℕ → Slices → Room → Type 0
 Ask fits call code before after = Crossing (fits && fitting before) code (Said (call (session_in before)) after) (after ≡ before.reply)
 
 -- the bare error norm
-abbrev pub Bared : Bool → Answer → ℕ → Room → Room → Type 0
+abbrev pub Bared : Bool → Result Answer Refusal → ℕ → Room → Room → Type 0
 Bared fits answer code before after = Crossing (fits && heard before) code (Said answer after) (after ≡ before)
 
 -- a bare call with an output lent

@@ -11,18 +11,20 @@
 // gives, which any call refuses. Bringing a session over tells nothing but its code.
 #![tactic(auto)]
 
-ghost use Rattle.std.specs.Prelude.{◌≡◌, true, cond, eqb, length};
-ghost use Rattle.image.specs.Image.{VECTOR, MATRIX, NUMBERS, scheme_of, history_of, wish_of, packed};
+ghost use Rattle.std.specs.Prelude.{◌≡◌, true, cond, ◌&&◌, eqb, length, Some, None};
+ghost use Rattle.image.specs.Image.{VECTOR, MATRIX, NUMBERS, scheme_of, history_of, wish_of, head_in, packed};
 ghost use Rattle.library.specs.Library.{room, slices, heard, fitting, vectors, Hears, Said, Open, BringOver, Call, CallLent, Ask, Bared, BaredLent};
 ghost use Rattle.session.specs.Calls.{open_call, begin_call, supply_call, accept_call, drop_call, first_step_call};
 ghost use Rattle.session.specs.Bare.{exponential_call, phi_call, norm_call};
 ghost use Rattle.session.specs.Values.{is_refused};
 
-use session::{Answer, Head, Left};
+use image::Outcome;
+use session::{Answer, Head, Left, Refusal};
 
 // ---- lengths
 
 // Whether the slices of a reply have their lengths.
+#[tactic(auto, unfolding(crate::specs::Library::heard))]
 fn hearing(words: &[u64], told: &[f64]) -> bool
     ensures { result ≡ heard (room words.now told.now) }
 {
@@ -30,20 +32,27 @@ fn hearing(words: &[u64], told: &[f64]) -> bool
 }
 
 // Whether those of a session and of its reply have.
+// Kept: a struct of the four slices would be made by each exported function, and taken apart again for each call.
+#[tactic(auto, unfolding(crate::specs::Library::fitting))]
 fn lent(numbers: &[u64], figures: &[f64], words: &[u64], told: &[f64]) -> bool
     ensures { result ≡ fitting (slices numbers.now figures.now words.now told.now) }
 {
     (numbers.len() == image::NUMBERS) & (figures.len() == image::FIGURES) & hearing(words, told)
 }
 
-// Whether x has n places.
-fn sized(x: &[f64], n: usize) -> bool
-    ensures { result ≡ eqb (length x.now) n }
+// The head that `numbers` hold, where `fits` holds and the slices have their lengths.
+fn held(fits: bool, numbers: &[u64], figures: &[f64], words: &[u64], told: &[f64]) -> Option<Head>
+    ensures { result ≡ cond (fits && fitting (slices numbers.now figures.now words.now told.now)) (Some (head_in numbers.now)) None }
 {
-    x.len() == n
+    if fits & lent(numbers, figures, words, told) {
+        Some(image::head_in(numbers.as_array().unwrap()))
+    } else {
+        None
+    }
 }
 
 // Whether four vectors have their lengths.
+#[tactic(auto, unfolding(crate::specs::Library::vectors))]
 fn four(w: &[f64], x: &[f64], y: &[f64], z: &[f64]) -> bool
     ensures { result ≡ vectors w.now x.now y.now z.now }
 {
@@ -55,24 +64,22 @@ fn four(w: &[f64], x: &[f64], y: &[f64], z: &[f64]) -> bool
 
 // ---- what is told
 
-// Where the second and the third count stand.
-const SECOND_AT: usize = image::COUNTS_AT + 1;
-
-const THIRD_AT: usize = SECOND_AT + 1;
-
 // Leaves what is told of an answer; whether it is a refusal.
-fn say(answer: Answer, words: &mut [u64], told: &mut [f64]) -> bool
+fn say(answer: Result<Answer, Refusal>, words: &mut [u64], told: &mut [f64]) -> bool
     requires { Hears (room words.old told.old) }
     ensures { (Said answer (room words.new told.new)) × (result ≡ is_refused answer) }
 {
     let r = image::reply_of(answer);
-    words[image::OUTCOME_AT] = r.outcome as u64;
-    words[image::REFUSAL_AT] = r.refusal as u64;
-    words[image::COUNTS_AT] = r.counts[0] as u64;
-    words[SECOND_AT] = r.counts[1] as u64;
-    words[THIRD_AT] = r.counts[2] as u64;
+    let [first, second, third] = r.counts;
+    words.copy_from_slice(&[
+        u8::from(r.outcome) as u64,
+        r.refusal as u64,
+        first as u64,
+        second as u64,
+        third as u64,
+    ]);
     told[0] = r.figure;
-    r.outcome == image::REFUSED
+    r.outcome == Outcome::Refused
 }
 
 // What a call told, and the numbers of the session that it left, unless it was refused.
@@ -81,12 +88,9 @@ fn give_back(left: Left, numbers: &mut [u64], words: &mut [u64], told: &mut [f64
     ensures { (numbers.new ≡ cond (is_refused left.answer) numbers.old (packed left.head))
         × Said left.answer (room words.new told.new) }
 {
-    let answer = left.answer;
-    let k = left.head;
-    if say(answer, words, told) {
-        return;
+    if !say(left.answer, words, told) {
+        numbers.copy_from_slice(&image::numbers_of(left.head));
     }
-    image::put_numbers(k, numbers);
 }
 
 // ---- the calls
@@ -123,26 +127,24 @@ pub extern "C" fn vunchrem_open(
         (slices numbers.old figures.old words.old told.old)
         (slices numbers.new figures.new words.new told.new) }
 {
-    if four(absolute, state, derivative, previous) & lent(&*numbers, &*figures, &*words, &*told) {
-        let left = Head::open(
-            image::scheme_of(scheme),
-            n as usize,
-            time,
-            state,
-            derivative,
-            relative,
-            absolute,
-            image::history_of(held),
-            previous,
-            figures,
-        );
-        let answer = left.answer;
-        let k = left.head;
-        say(answer, words, told);
-        image::put_numbers(k, numbers);
-        return 0;
+    if !(four(absolute, state, derivative, previous) & lent(numbers, figures, words, told)) {
+        return 1;
     }
-    1
+    let left = Head::open(
+        image::scheme_of(scheme),
+        n as usize,
+        time,
+        state,
+        derivative,
+        relative,
+        absolute,
+        image::history_of(held),
+        previous,
+        figures,
+    );
+    say(left.answer, words, told);
+    numbers.copy_from_slice(&image::numbers_of(left.head));
+    0
 }
 
 // Fills the figures from those that a session of the layout before request 1 had, 628 of them: its tolerance is copied n times. Its numbers stay
@@ -151,13 +153,14 @@ pub extern "C" fn vunchrem_open(
 pub extern "C" fn vunchrem_bring_over(numbers: &[u64], old: &[f64], figures: &mut [f64]) -> u32
     ensures { BringOver result numbers.now old.now figures.old figures.new }
 {
-    if numbers.len() == image::NUMBERS {
-        let k = image::head_in(numbers);
-        if k.bring_over(old, figures) {
-            return 0;
-        }
+    let Some(numbers) = numbers.as_array() else {
+        return 1;
+    };
+    if image::head_in(numbers).bring_over(old, figures) {
+        0
+    } else {
+        1
     }
-    1
 }
 
 // Begins an attempt: `wish` 0 differences, and `jacobian` is then +0.0 throughout. The first question, or the candidate, fills `out`.
@@ -178,13 +181,13 @@ pub extern "C" fn vunchrem_begin(
         (slices numbers.new figures.new words.new told.new)
         out.entry.now out.exit.now }
 {
-    if sized(jacobian, image::MATRIX) & lent(&*numbers, &*figures, &*words, &*told) {
-        let k = image::head_in(&*numbers);
-        let left = k.begin(figures, step, image::wish_of(wish), jacobian, out);
-        give_back(left, numbers, words, told);
-        return 0;
-    }
-    1
+    let fits = jacobian.len() == image::MATRIX;
+    let Some(k) = held(fits, numbers, figures, words, told) else {
+        return 1;
+    };
+    let left = k.begin(figures, step, image::wish_of(wish), jacobian, out);
+    give_back(left, numbers, words, told);
+    0
 }
 
 // Supplies the derivative that was asked for: the next question, or the candidate, fills `out`.
@@ -203,13 +206,13 @@ pub extern "C" fn vunchrem_supply(
         (slices numbers.new figures.new words.new told.new)
         out.entry.now out.exit.now }
 {
-    if sized(answer, image::VECTOR) & lent(&*numbers, &*figures, &*words, &*told) {
-        let k = image::head_in(&*numbers);
-        let left = k.supply(figures, answer, out);
-        give_back(left, numbers, words, told);
-        return 0;
-    }
-    1
+    let fits = answer.len() == image::VECTOR;
+    let Some(k) = held(fits, numbers, figures, words, told) else {
+        return 1;
+    };
+    let left = k.supply(figures, answer, out);
+    give_back(left, numbers, words, told);
+    0
 }
 
 // Accepts the candidate, with the derivative there.
@@ -226,13 +229,13 @@ pub extern "C" fn vunchrem_accept(
         (slices numbers.old figures.old words.old told.old)
         (slices numbers.new figures.new words.new told.new) }
 {
-    if sized(derivative, image::VECTOR) & lent(&*numbers, &*figures, &*words, &*told) {
-        let k = image::head_in(&*numbers);
-        let left = k.accept(figures, derivative);
-        give_back(left, numbers, words, told);
-        return 0;
-    }
-    1
+    let fits = derivative.len() == image::VECTOR;
+    let Some(k) = held(fits, numbers, figures, words, told) else {
+        return 1;
+    };
+    let left = k.accept(figures, derivative);
+    give_back(left, numbers, words, told);
+    0
 }
 
 // Drops the attempt, if there is one.
@@ -247,13 +250,12 @@ pub extern "C" fn vunchrem_drop(
         (slices numbers.old figures.old words.old told.old)
         (slices numbers.new figures.new words.new told.new) }
 {
-    if lent(&*numbers, &*figures, &*words, &*told) {
-        let k = image::head_in(&*numbers);
-        let left = k.drop(figures);
-        give_back(left, numbers, words, told);
-        return 0;
-    }
-    1
+    let Some(k) = held(true, numbers, figures, words, told) else {
+        return 1;
+    };
+    let left = k.drop(figures);
+    give_back(left, numbers, words, told);
+    0
 }
 
 // The first step that the run's figures suggest, at most `largest`. The session stays as it is.
@@ -269,12 +271,11 @@ pub extern "C" fn vunchrem_first_step(
         (slices numbers.now figures.now words.old told.old)
         (room words.new told.new) }
 {
-    if lent(numbers, figures, &*words, &*told) {
-        let k = image::head_in(numbers);
-        say(k.first_step(figures, largest), words, told);
-        return 0;
-    }
-    1
+    let Some(k) = held(true, numbers, figures, words, told) else {
+        return 1;
+    };
+    say(k.first_step(figures, largest), words, told);
+    0
 }
 
 // ---- the bare calls
@@ -292,12 +293,11 @@ pub extern "C" fn vunchrem_exponential(
         (room words.old told.old) (room words.new told.new)
         out.entry.now out.exit.now }
 {
-    if hearing(&*words, &*told) {
-        let answer = session::exponential(size as usize, m, out);
-        say(answer, words, told);
-        return 0;
+    if !hearing(words, told) {
+        return 1;
     }
-    1
+    say(session::exponential(size as usize, m, out), words, told);
+    0
 }
 
 // The phi action of order 1 to 4 of the matrix `a`, times `scale_a`, on n numbers, into `out`.
@@ -316,12 +316,12 @@ pub extern "C" fn vunchrem_phi_action(
         (room words.old told.old) (room words.new told.new)
         out.entry.now out.exit.now }
 {
-    if hearing(&*words, &*told) {
-        let answer = session::phi_action(n as usize, order as usize, scale_a, a, input, out);
-        say(answer, words, told);
-        return 0;
+    if !hearing(words, told) {
+        return 1;
     }
-    1
+    let answer = session::phi_action(n as usize, order as usize, scale_a, a, input, out);
+    say(answer, words, told);
+    0
 }
 
 // The error norm of n entries.
@@ -340,17 +340,17 @@ pub extern "C" fn vunchrem_error_norm(
         (norm_call n «relative» absolute.now error.now state.now candidate.now) result
         (room words.old told.old) (room words.new told.new) }
 {
-    if four(absolute, error, state, candidate) & hearing(&*words, &*told) {
-        let answer = session::error_norm(
-            n as usize,
-            relative,
-            image::vector_of(absolute),
-            image::vector_of(error),
-            image::vector_of(state),
-            image::vector_of(candidate),
-        );
-        say(answer, words, told);
-        return 0;
+    if !(four(absolute, error, state, candidate) & hearing(words, told)) {
+        return 1;
     }
-    1
+    let answer = session::error_norm(
+        n as usize,
+        relative,
+        *absolute.as_array().unwrap(),
+        *error.as_array().unwrap(),
+        *state.as_array().unwrap(),
+        *candidate.as_array().unwrap(),
+    );
+    say(answer, words, told);
+    0
 }

@@ -3,107 +3,33 @@
 // where a row sum is refused.
 #![tactic(auto)]
 
-ghost use Rattle.std.specs.Prelude.{◌+◌, ◌*◌, ◌≤◌, ◌≡◌, length};
+use pipe::StandardPipe;
+use std::io;
+use std::io::Write;
 
-use pipe::Pipe;
-
-// The doubles of a record.
-fn load(bytes: &[u8], m: &mut [f64])
-    requires { length bytes.now ≡ 8 * length m.old }
-{
-    for p in 0..m.len() {
-        m[p] = wire::read_f64(bytes, 8 * p);
+// Answers one record; a size above 20 ends the run.
+fn record(pipe: &mut StandardPipe) -> io::Result<()> {
+    let n = wire::read_u8(&mut pipe.input)? as usize;
+    if n > 20 {
+        return Err(io::Error::from(io::ErrorKind::InvalidData));
     }
-}
-
-// The first bytes of a reply that has doubles.
-fn mark(bytes: &mut [u8], terms: u8, squarings: u8)
-    requires { 3 ≤ length bytes.old }
-{
-    bytes[0] = 1;
-    bytes[1] = terms;
-    bytes[2] = squarings;
-}
-
-// The doubles of a reply, after its first bytes.
-fn store(m: &[f64], bytes: &mut [u8])
-    requires { length bytes.old ≡ 3 + 8 * length m.now }
-{
-    for p in 0..m.len() {
-        wire::write_f64(bytes, 3 + 8 * p, m[p]);
-    }
-}
-
-// Reads a record's doubles and writes the reply; false where the input has ended.
-fn exchange(
-    pipe: &Pipe,
-    input: &mut [u8],
-    m: &mut [f64],
-    out: &mut [f64],
-    reply: &mut [u8],
-    n: usize,
-) -> bool
-    requires n_bound { (n ≤ 20) × (length m.old ≡ n * n) × (length out.old ≡ n * n) }
-    requires input_len { (length input.old ≡ 8 * (n * n)) × (length reply.old ≡ 3 + 8 * (n * n)) }
-{
-    let got = pipe.read_full(input);
-    if got < input.len() {
-        return false;
-    }
-    load(input, m);
-    let reach = matrix::matrix_exp(m, out, n);
-    if reach.ok {
-        mark(reply, reach.terms as u8, reach.squarings as u8);
-        store(out, reply);
-        return pipe.write_all(reply);
-    }
-    let no = [0u8; 1];
-    pipe.write_all(&no)
-}
-
-// Lends room for a matrix of size n.
-fn replay(pipe: &Pipe, n: usize) -> bool
-    requires { n ≤ 20 }
-{
-    let places = n * n;
-    let bytes = 8 * places;
-    let after = 3 + bytes;
-    let mut input = [0u8; 3200];
     let mut m = [0.0; 400];
     let mut out = [0.0; 400];
-    let mut reply = [0u8; 3203];
-    exchange(
-        pipe,
-        &mut input[..bytes],
-        &mut m[..places],
-        &mut out[..places],
-        &mut reply[..after],
-        n,
-    )
-}
-
-// Answers one record; false where the input has ended.
-fn record(pipe: &Pipe) -> bool {
-    let mut size = [0u8; 1];
-    let got = pipe.read_full(&mut size);
-    if got < 1 {
-        return false;
-    }
-    let n = size[0];
-    if n > 20 {
-        return false;
-    }
-    replay(pipe, n as usize)
-}
-
-// A proved loop has to end: it counts its turns down from a number that no run uses up.
-fn main(rt: HostRuntime) {
-    let pipe = &Pipe {
-        input: rt.stdin(),
-        output: rt.stdout(),
+    let m = &mut m[..n * n];
+    let out = &mut out[..n * n];
+    wire::read_doubles(&mut pipe.input, m)?;
+    let Some(reach) = matrix::matrix_exp(m, out, n) else {
+        return pipe.write_all(&[0]);
     };
-    let mut turns = u64::MAX;
-    while turns > 0 && record(pipe) {
-        turns -= 1;
-    }
+    pipe.output
+        .write_all(&[1, reach.terms as u8, reach.squarings as u8])?;
+    wire::write_doubles(&mut pipe.output, out)?;
+    pipe.output.flush()
+}
+
+// Ends with the input, or at a reply that cannot be written. A proved loop has to end: no run uses up its turns.
+fn main(rt: HostRuntime) -> io::Result<()> {
+    let mut pipe = pipe::standard(rt.alloc(), rt.stdin(), rt.stdout())?;
+    let _ended = (0..u64::MAX).try_for_each(|_| record(&mut pipe));
+    Ok(())
 }

@@ -5,194 +5,104 @@
 // whether there is an error, a byte, the error, and f0 - J u.
 #![tactic(auto)]
 
-ghost use Rattle.std.specs.Prelude.{◌+◌, ◌≤◌, ◌≡◌, length};
-ghost use Rattle.methods.specs.Vectors.{Sized};
+ghost use Rattle.std.specs.Prelude.{◌≤◌};
 
-use methods::{Kind, Point, StepResult};
-use pipe::Pipe;
+use methods::{Dimension, PLACES, Point, Replay, StepResult};
+use pipe::StandardPipe;
+use std::io;
+use std::io::{Read, Write};
 
-fn read_double(pipe: &Pipe) -> f64 {
-    let mut bytes = [0u8; 8];
-    pipe.read_full(&mut bytes);
-    wire::read_f64(&bytes, 0)
-}
+// The most answers of a record, and the bytes of the longest record's doubles.
+const ANSWERS: usize = 4;
 
-// n doubles, from place `at` on.
-fn read_doubles(pipe: &Pipe, out: &mut [f64], at: usize, n: usize)
-    requires { at + n ≤ length out.old }
-{
-    for i in 0..n {
-        out[at + i] = read_double(pipe);
-    }
-}
+const LONGEST: usize = 8 * (2 + 3 * PLACES + PLACES * PLACES + ANSWERS * PLACES);
 
-fn read_vector(pipe: &Pipe, n: usize) -> [f64; 16]
+// The first n places of a vector; +0.0 in the others.
+fn read_vector<R: Read>(input: &mut R, n: usize) -> io::Result<[f64; PLACES]>
     requires { n ≤ 16 }
 {
-    let mut out = [0.0; 16];
-    for i in 0..n {
-        out[i] = read_double(pipe);
-    }
-    out
+    let mut x = [0.0; PLACES];
+    wire::read_doubles(input, &mut x[..n])?;
+    Ok(x)
 }
 
-// The answers, the j-th from place 16 j on.
-fn read_answers(pipe: &Pipe, answers: &mut [f64], count: usize, n: usize)
-    requires { (length answers.old ≡ 320) × (count ≤ 4) × (n ≤ 16) }
-{
-    for j in 0..count {
-        read_doubles(pipe, answers, 16 * j, n);
-    }
-}
-
-fn write_byte(pipe: &Pipe, x: u8) {
-    let bytes = [x; 1];
-    pipe.write_all(&bytes);
-}
-
-fn write_count(pipe: &Pipe, x: u32) {
-    let mut bytes = [0u8; 4];
-    wire::write_u32(&mut bytes, 0, x);
-    pipe.write_all(&bytes);
-}
-
-fn write_double(pipe: &Pipe, x: f64) {
-    let mut bytes = [0u8; 8];
-    wire::write_f64(&mut bytes, 0, x);
-    pipe.write_all(&bytes);
-}
-
-fn write_vector(pipe: &Pipe, x: [f64; 16], n: usize)
-    requires { n ≤ 16 }
-{
-    for i in 0..n {
-        write_double(pipe, x[i]);
-    }
-}
-
-fn write_end(pipe: &Pipe, scheme: u8, r: StepResult, n: usize)
-    requires { n ≤ 16 }
-{
-    let candidate = r.state;
-    let error = r.error;
-    let nonlinear = r.nonlinear;
-    let work = r.work;
-    write_byte(pipe, 2);
-    write_count(pipe, work.exponentials);
-    write_count(pipe, work.products);
-    write_vector(pipe, candidate, n);
-    if scheme >= 14 {
-        write_byte(pipe, 1);
-    } else {
-        write_byte(pipe, 0);
-    }
-    write_vector(pipe, error, n);
-    write_vector(pipe, nonlinear, n);
-}
-
-fn write_question(pipe: &Pipe, r: StepResult, time: f64, n: usize)
-    requires { n ≤ 16 }
-{
-    let state = r.state;
-    write_byte(pipe, 1);
-    write_double(pipe, time);
-    write_vector(pipe, state, n);
-}
-
-fn reply(pipe: &Pipe, scheme: u8, r: StepResult, n: usize)
-    requires { n ≤ 16 }
-{
-    if !r.ok {
-        write_byte(pipe, 0);
-        return;
-    }
-    let kind = r.kind;
-    match kind {
-        Kind::Question(time) => write_question(pipe, r, time, n),
-        Kind::Done => write_end(pipe, scheme, r, n),
-    }
-}
-
-// Reads a record's doubles and answers it.
-fn exchange(
-    pipe: &Pipe,
+// What a step came to.
+fn write_step<W: Write>(
+    output: &mut W,
     scheme: u8,
     n: usize,
-    held: bool,
-    count: usize,
-    a: &mut [f64],
-    answers: &mut [f64],
-)
-    requires sized { Sized n a.old }
-    requires answers_len { (length answers.old ≡ 320) × (count ≤ 4) }
+    r: Option<StepResult>,
+) -> io::Result<()>
+    requires { n ≤ 16 }
 {
-    let time = read_double(pipe);
-    let step = read_double(pipe);
-    let state = read_vector(pipe, n);
-    let f0 = read_vector(pipe, n);
-    let places = a.len();
-    read_doubles(pipe, a, 0, places);
-    let previous = read_vector(pipe, n);
-    read_answers(pipe, answers, count, n);
-    let p = Point {
-        n,
+    match r {
+        None => output.write_all(&[0]),
+        Some(StepResult::Question(state, time)) => {
+            output.write_all(&[1])?;
+            wire::write_f64(output, time)?;
+            wire::write_doubles(output, &state[..n])
+        }
+        Some(StepResult::Done(candidate, error, nonlinear, work)) => {
+            output.write_all(&[2])?;
+            wire::write_u32(output, work.exponentials)?;
+            wire::write_u32(output, work.products)?;
+            wire::write_doubles(output, &candidate[..n])?;
+            output.write_all(&[(scheme >= 14) as u8])?;
+            wire::write_doubles(output, &error[..n])?;
+            wire::write_doubles(output, &nonlinear[..n])
+        }
+    }
+}
+
+// Answers one record. A dimension that is not 1 to 16, or more than four answers, ends the run; a record that is cut short goes on in zeros.
+fn record(pipe: &mut StandardPipe) -> io::Result<()> {
+    let scheme = wire::read_u8(&mut pipe.input)?;
+    let n = wire::read_u8(&mut pipe.input)? as usize;
+    let held = wire::read_u8(&mut pipe.input)? == 1;
+    let count = wire::read_u8(&mut pipe.input)? as usize;
+    if n == 0 || n > PLACES || count > ANSWERS {
+        return Err(io::Error::from(io::ErrorKind::InvalidData));
+    }
+    let size = 8 * (2 + 3 * n + n * n + count * n);
+    let mut doubles = [0u8; LONGEST];
+    pipe.read_full(&mut doubles[..size]);
+    let mut doubles = &doubles[..size];
+    let input = &mut doubles;
+    let time = wire::read_f64(input)?;
+    let step = wire::read_f64(input)?;
+    let state = read_vector(input, n)?;
+    let f0 = read_vector(input, n)?;
+    let mut jacobian = [0.0; PLACES * PLACES];
+    let jacobian = &mut jacobian[..n * n];
+    wire::read_doubles(input, jacobian)?;
+    let previous = read_vector(input, n)?;
+    let mut answers = [0.0; 320];
+    for j in 0..count {
+        wire::read_doubles(input, &mut answers[PLACES * j..PLACES * j + n])?;
+    }
+    let point = Point {
+        n: Dimension::new(n),
         time,
         step,
         state,
         f0,
-        held,
-        previous,
+        previous: if held { Some(previous) } else { None },
     };
-    reply(
-        pipe,
-        scheme,
-        schemes::perform_step(scheme, p, a, answers, 0, count),
-        n,
-    );
-}
-
-// Lends room for a Jacobian and answers.
-fn replay(pipe: &Pipe, scheme: u8, n: usize, held: bool, count: usize)
-    requires { (1 ≤ n) × (n ≤ 16) × (count ≤ 4) }
-{
-    let places = n * n;
-    let mut a = [0.0; 256];
-    let mut answers = [0.0; 320];
-    exchange(pipe, scheme, n, held, count, &mut a[..places], &mut answers);
-}
-
-// Answers one record; false where the input has ended.
-fn record(pipe: &Pipe) -> bool {
-    let mut head = [0u8; 4];
-    let got = pipe.read_full(&mut head);
-    if got < 4 {
-        return false;
-    }
-    let scheme = head[0];
-    let n = head[1];
-    let held = head[2];
-    let count = head[3];
-    if n == 0 {
-        return false;
-    }
-    if n > 16 {
-        return false;
-    }
-    if count > 4 {
-        return false;
-    }
-    replay(pipe, scheme, n as usize, held == 1, count as usize);
-    true
-}
-
-// A proved loop has to end: it counts its turns down from a number that no run uses up.
-fn main(rt: HostRuntime) {
-    let pipe = &Pipe {
-        input: rt.stdin(),
-        output: rt.stdout(),
+    let replay = Replay {
+        point,
+        jacobian,
+        answers: &answers,
+        first: 0,
+        count,
     };
-    let mut turns = u64::MAX;
-    while turns > 0 && record(pipe) {
-        turns -= 1;
-    }
+    let r = schemes::perform_step(scheme, &replay);
+    write_step(&mut pipe.output, scheme, n, r)?;
+    pipe.output.flush()
+}
+
+// Ends with the input, or at a reply that cannot be written. A proved loop has to end: no run uses up its turns.
+fn main(rt: HostRuntime) -> io::Result<()> {
+    let mut pipe = pipe::standard(rt.alloc(), rt.stdin(), rt.stdout())?;
+    let _ended = (0..u64::MAX).try_for_each(|_| record(&mut pipe));
+    Ok(())
 }

@@ -1,52 +1,62 @@
-// A program's standard input and standard output as a pipe of bytes, neither of them buffered.
+// A program's input and output, as a pipe of bytes.
 #![tactic(auto)]
 
-ghost use Rattle.std.specs.Prelude.{◌≤◌, length, take};
-ghost use Rattle.std.specs.Bool.{OnTrue};
+ghost use Rattle.std.specs.Prelude.{◌≡◌, ◌≤◌, [], length, take, OnOk, IfOk, IfErr};
+ghost use Rattle.std.specs.Io.Buffered.{reader_inner, reader_buffer, writer_inner, writer_buffer};
 ghost use Rattle.std.specs.Io.KnownBytes.{Appends, Consumes};
+ghost use Rattle.std.specs.IoError.{error_kind};
 
-use std::io::{Read, Stdin, Stdout, Write};
+use std::alloc::Global;
+use std::io;
+use std::io::{BufReader, BufWriter, ErrorKind, Read, Stdin, Stdout, Write};
 
-// Reads until b is full, the input ends or a read fails: how many bytes it put at the start of b, in the reader's order and none left out.
-pub fn read_full<R: Read>(input: &mut R, b: &mut [u8]) -> usize
-    ensures room { result ≤ length b.new }
-    ensures bytes { Consumes (R.remaining input.old) (R.remaining input.new) (take result b.new) }
+// Where a program reads, and where it writes.
+#[derive(Drop)]
+pub struct Pipe<R, W> {
+    pub input: R,
+    pub output: W,
+}
+
+// A program's standard streams. No clause can say what a terminal, a file or another program gives or takes: what is proved of the bytes stands below.
+pub type StandardPipe = Pipe<BufReader<Stdin>, BufWriter<Stdout>>;
+
+// The standard streams, each behind a buffer that is empty; the error is that of memory.
+pub fn standard(alloc: Global, input: Stdin, output: Stdout) -> io::Result<StandardPipe>
+    ensures input { IfOk result (λ pipe. (reader_inner pipe.input ≡ input) × (reader_buffer pipe.input ≡ [])) }
+    ensures output { IfOk result (λ pipe. (writer_inner pipe.output ≡ output) × (writer_buffer pipe.output ≡ [])) }
+    ensures memory { IfErr result (λ e. error_kind e ≡ ErrorKind.OutOfMemory) }
 {
-    let mut done = 0;
-    while done < b.len() {
-        match input.read(&mut b[done..]) {
-            Ok(0) => break,
-            Ok(n) => done += n,
-            Err(_) => break,
-        }
-    }
-    done
+    Ok(Pipe {
+        input: BufReader::new(alloc, input)?,
+        output: BufWriter::new(alloc, output)?,
+    })
 }
 
-// Whether all of b was written, after what the writer had.
-pub fn write_all<W: Write>(output: &mut W, b: &[u8]) -> bool
-    ensures { OnTrue result (Appends (W.contents output.old) (W.contents output.new) b.now) }
-{
-    output.write_all(b).is_ok()
-}
-
-// The two streams of a program. No clause can say what a terminal, a file or another program gives or takes: what is proved of the bytes stands above.
-#[derive(Clone, Copy)]
-pub struct Pipe {
-    pub input: Stdin,
-    pub output: Stdout,
-}
-
-impl Pipe {
-    pub fn read_full(&self, b: &mut [u8]) -> usize
-        ensures { result ≤ length b.new }
+impl<R: Read, W: Write> Pipe<R, W> {
+    // Reads until b is full, the input ends or a read fails: how many bytes it put at the start of b, in the reader's order and none left out.
+    pub fn read_full(&mut self, b: &mut [u8]) -> usize
+        ensures room { result ≤ length b.new }
+        ensures bytes { Consumes (R.remaining self.old.input) (R.remaining self.new.input) (take result b.new) }
+        ensures output { self.new.output ≡ self.old.output }
     {
-        let mut input = self.input;
-        read_full(&mut input, b)
+        // Kept: std's `read_exact` does not tell how many bytes came before the end, and methods_run goes on with those.
+        let mut done = 0;
+        while done < b.len() {
+            match self.input.read(&mut b[done..]) {
+                Ok(0) => break,
+                Ok(n) => done += n,
+                Err(_) => break,
+            }
+        }
+        done
     }
 
-    pub fn write_all(&self, b: &[u8]) -> bool {
-        let mut output = self.output;
-        write_all(&mut output, b)
+    // Writes all of b, after what the writer had, and hands it on.
+    pub fn write_all(&mut self, b: &[u8]) -> io::Result<()>
+        ensures bytes { OnOk result (Appends (W.contents self.old.output) (W.contents self.new.output) b.now) }
+        ensures input { self.new.input ≡ self.old.input }
+    {
+        self.output.write_all(b)?;
+        self.output.flush()
     }
 }

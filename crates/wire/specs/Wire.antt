@@ -1,5 +1,8 @@
 -- Numbers as bytes, the lowest first. Definitions only.
-use Rattle.std.specs.Prelude.{ℕ, ◌+◌, ◌*◌, ◌/◌, ◌%◌, List, get_or, set}
+use Rattle.std.specs.Prelude.{ℕ, ◌≡◌, ◌+◌, ◌*◌, ◌/◌, ◌%◌, ◌<◌, Option, List, [], ◌∷◌, ◌++◌, Float, get_or, set, length, replicate}
+use Rattle.std.specs.Float.{binary64}
+use Rattle.std.specs.Float.Ieee.{of_bits, to_bits, nan}
+use Rattle.std.specs.Io.KnownBytes.{Consumes}
 
 -- the byte at place i
 abbrev pub byte_at : List ℕ → ℕ → ℕ
@@ -24,3 +27,20 @@ put32 b i x = set (set (set (set b i (x % 0x100)) (i + 1) (x / 0x100 % 0x100)) (
 -- b with the eight bytes of x from place i on
 unfoldable pub put64 : List ℕ → ℕ → ℕ → List ℕ
 put64 b i x = put32 (put32 b i (x % 0x1_0000_0000)) (i + 4) (x / 0x1_0000_0000)
+
+-- room for n bytes
+abbrev pub blank : ℕ → List ℕ
+blank n = replicate n 0
+
+-- a reader's known bytes lose the first n, of which `holds` is true
+abbrev pub Takes : ℕ → (List ℕ → Type 0) → Option (List ℕ) → Option (List ℕ) → Type 0
+Takes n holds old new = (b : List ℕ) × (length b ≡ n) × Consumes old new b × holds b
+
+-- the doubles of x stand in b, one after another
+abbrev pub HoldsDoubles : List Float → List ℕ → Type 0
+HoldsDoubles x b = (k : ℕ) → k < length x → get_or x k nan ≡ of_bits binary64 (word64 b (8 * k))
+
+-- the bytes of the doubles of x, one after another
+abbrev pub doubles_bytes : List Float → List ℕ
+doubles_bytes [] = []
+doubles_bytes (x ∷ xs) = put64 (blank 8) 0 (to_bits binary64 x) ++ doubles_bytes xs

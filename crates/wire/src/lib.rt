@@ -1,95 +1,100 @@
-// Numbers and doubles as little-endian bytes, for the programs that read and write them.
+// Numbers and doubles as little-endian bytes, taken from a reader and given to a writer.
 #![tactic(auto)]
 
-ghost use Rattle.std.specs.Prelude.{◌≡◌, ◌+◌, ◌≤◌, ◌<◌, length};
+ghost use Rattle.std.specs.Prelude.{◌≡◌, ◌*◌, [], ◌∷◌, length, IfOk, OnOk};
 ghost use Rattle.std.specs.Float.{binary64};
 ghost use Rattle.std.specs.Float.Ieee.{of_bits, to_bits};
-ghost use Rattle.wire.specs.Wire.{byte_at, word16, word32, word64, put32, put64};
+ghost use Rattle.std.specs.Io.KnownBytes.{Appends};
+ghost use Rattle.wire.specs.Wire.{Takes, word16, word64, HoldsDoubles, blank, put32, put64, doubles_bytes};
 
-// The byte at place i.
-fn byte(b: &[u8], i: usize) -> u64
-    requires { i < length b.now }
-    ensures { (result ≡ byte_at b.now i) × (result < 256) }
+use std::io;
+use std::io::{Read, Write};
+use std::num::{f64_from_bits_with_nan, f64_to_bits_with_nan};
+
+// The next byte.
+pub fn read_u8<R: Read>(input: &mut R) -> io::Result<u8>
+    ensures { IfOk result (λ x. Takes 1 (λ b. b ≡ x ∷ []) (R.remaining input.old) (R.remaining input.new)) }
 {
-    b[i] as u64
+    let mut b = [0u8; 1];
+    input.read_exact(&mut b)?;
+    Ok(b[0])
 }
 
-// The 16-bit number that begins at place i.
-pub fn read_u16(b: &[u8], i: usize) -> u64
-    requires { i + 2 ≤ length b.now }
-    ensures { (result ≡ word16 b.now i) × (result < 0x1_0000) }
+// The 16-bit number that comes next.
+pub fn read_u16<R: Read>(input: &mut R) -> io::Result<u16>
+    ensures { IfOk result (λ x. Takes 2 (λ b. x ≡ word16 b 0) (R.remaining input.old) (R.remaining input.new)) }
 {
-    byte(b, i) + byte(b, i + 1) * 0x100
+    let mut b = [0u8; 2];
+    input.read_exact(&mut b)?;
+    Ok(u16::from_le_bytes(b))
 }
 
-// The 32-bit number that begins at place i.
-pub fn read_u32(b: &[u8], i: usize) -> u64
-    requires { i + 4 ≤ length b.now }
-    ensures { (result ≡ word32 b.now i) × (result < 0x1_0000_0000) }
+// The double that comes next; every NaN's pattern is a NaN.
+pub fn read_f64<R: Read>(input: &mut R) -> io::Result<f64>
+    ensures { IfOk result (λ x. Takes 8 (λ b. x ≡ of_bits binary64 (word64 b 0)) (R.remaining input.old) (R.remaining input.new)) }
 {
-    read_u16(b, i) + read_u16(b, i + 2) * 0x1_0000
+    let mut b = [0u8; 8];
+    input.read_exact(&mut b)?;
+    Ok(f64_from_bits_with_nan(u64::from_le_bytes(b)))
 }
 
-// The 64-bit number that begins at place i.
-pub fn read_u64(b: &[u8], i: usize) -> u64
-    requires { i + 8 ≤ length b.now }
-    ensures { result ≡ word64 b.now i }
+// As many doubles as x has places, one after another.
+pub fn read_doubles<R: Read>(input: &mut R, x: &mut [f64]) -> io::Result<()>
+    ensures { OnOk result (Takes (8 * length x.new) (HoldsDoubles x.new) (R.remaining input.old) (R.remaining input.new)) }
 {
-    read_u32(b, i) + read_u32(b, i + 4) * 0x1_0000_0000
-}
-
-// The double with a pattern; every NaN's pattern is a NaN.
-pub fn double(pattern: u64) -> f64
-    ensures { result ≡ of_bits binary64 pattern }
-{
-    if pattern % 0x8000_0000_0000_0000 > 0x7ff0_0000_0000_0000 {
-        return 0.0 / 0.0;
+    for y in x.iter_mut() {
+        *y = read_f64(input)?;
     }
-    f64::from_bits(pattern)
+    Ok(())
 }
 
-// A double's pattern; a NaN's is 0x7ff8000000000000.
-pub fn pattern(x: f64) -> u64
-    ensures { result ≡ to_bits binary64 x }
+// The four bytes of x, after what the writer had.
+pub fn write_u32<W: Write>(output: &mut W, x: u32) -> io::Result<()>
+    ensures { OnOk result (Appends (W.contents output.old) (W.contents output.new) (put32 (blank 4) 0 x)) }
 {
-    if x != x {
-        return 0x7ff8_0000_0000_0000;
+    output.write_all(&x.to_le_bytes())
+}
+
+// The bytes of x's pattern, after what the writer had; a NaN's is 0x7ff8000000000000.
+pub fn write_f64<W: Write>(output: &mut W, x: f64) -> io::Result<()>
+    ensures { OnOk result (Appends (W.contents output.old) (W.contents output.new) (put64 (blank 8) 0 (to_bits binary64 x))) }
+{
+    output.write_all(&f64_to_bits_with_nan(x).to_le_bytes())
+}
+
+// The bytes of all of x, one double after another.
+pub fn write_doubles<W: Write>(output: &mut W, x: &[f64]) -> io::Result<()>
+    ensures { OnOk result (Appends (W.contents output.old) (W.contents output.new) (doubles_bytes x.now)) }
+{
+    for y in x {
+        write_f64(output, *y)?;
     }
-    f64::to_bits(x)
+    Ok(())
 }
 
-// The double that begins at place i.
-pub fn read_f64(b: &[u8], i: usize) -> f64
-    requires { i + 8 ≤ length b.now }
-    ensures { result ≡ of_bits binary64 (word64 b.now i) }
-{
-    double(read_u64(b, i))
-}
+#[cfg(test)]
+mod tests {
+    use super::*;
+    use std::test::Fail;
 
-// The four bytes of x from place i on.
-pub fn write_u32(b: &mut [u8], i: usize, x: u32)
-    requires { i + 4 ≤ length b.old }
-    ensures { b.new ≡ put32 b.old i x }
-{
-    b[i] = (x % 0x100) as u8;
-    b[i + 1] = (x / 0x100 % 0x100) as u8;
-    b[i + 2] = (x / 0x1_0000 % 0x100) as u8;
-    b[i + 3] = (x / 0x100_0000 % 0x100) as u8;
-}
-
-// The eight bytes of x from place i on.
-pub fn write_u64(b: &mut [u8], i: usize, x: u64)
-    requires { i + 8 ≤ length b.old }
-    ensures { b.new ≡ put64 b.old i x }
-{
-    write_u32(&mut *b, i, (x % 0x1_0000_0000) as u32);
-    write_u32(&mut *b, i + 4, (x / 0x1_0000_0000) as u32);
-}
-
-// The bytes of x's pattern from place i on.
-pub fn write_f64(b: &mut [u8], i: usize, x: f64)
-    requires { i + 8 ≤ length b.old }
-    ensures { b.new ≡ put64 b.old i (to_bits binary64 x) }
-{
-    write_u64(b, i, pattern(x));
+    // What is written is read back, and then the input has ended.
+    #[test]
+    fn round_trip(rt: HostRuntime) -> Result<(), Fail> {
+        let mut bytes = Vec::new(rt.alloc());
+        bytes.write_all(&[7, 2, 1])?;
+        write_u32(&mut bytes, 3)?;
+        write_f64(&mut bytes, 1.5)?;
+        write_doubles(&mut bytes, &[2.5, -0.5])?;
+        let mut input = bytes.as_slice();
+        assert_eq!(rt; read_u8(&mut input)?, 7);
+        assert_eq!(rt; read_u16(&mut input)?, 0x0102);
+        assert_eq!(rt; read_u16(&mut input)?, 3);
+        assert_eq!(rt; read_u16(&mut input)?, 0);
+        assert_eq!(rt; read_f64(&mut input)?, 1.5);
+        let mut x = [0.0; 2];
+        read_doubles(&mut input, &mut x)?;
+        assert_eq!(rt; x, [2.5, -0.5]);
+        assert!(rt; read_u8(&mut input).is_err());
+        Ok(())
+    }
 }

@@ -1,19 +1,16 @@
 -- `library::vunchrem_phi_action` meets its contract. Assumes nothing.
-use mathlib.Core.Path.{refl, sym, ◌∙◌}
+use Rattle.std.proofs.Common.{refl, sym, ◌∙◌}
 use Rattle.library.specs.Library.{Crossing}
 use Rattle.library.proofs.Laws.{hears}
 use Rattle.library.proofs.vunchrem_phi_action.Goals as goal
 
-pub say-requires : goal.say-requires
+pub returns-then-not-hearing : goal.returns-then-not-hearing
 unfolding Crossing
-say-requires c = hears _ (sym c.hearing.ensures ∙ c.if-hearing.true)
+returns-then-not-hearing c = rw (← c.hearing.ensures, c.if-not-hearing.true) (refl, (refl, refl))
 
-pub returns-then-hearing : goal.returns-then-hearing
-unfolding Crossing
-returns-then-hearing c =
-    rw (← c.hearing.ensures, c.if-hearing.true, ← c.phi_action-answer.ensures)
-    (refl, record { said = c.say.ensures.0; out = refl })
+pub say-requires : goal.say-requires
+say-requires c = hears _ (sym c.hearing.ensures ∙ c.if-not-hearing.false)
 
 pub returns : goal.returns
 unfolding Crossing
-returns c = rw (← c.hearing.ensures, c.if-hearing.false) (refl, (refl, refl))
+returns c = rw (← c.hearing.ensures, c.if-not-hearing.false, ← c.phi_action-answer.ensures) (refl, record { said = c.say.ensures.0; out = refl })

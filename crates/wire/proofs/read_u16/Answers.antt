@@ -5,4 +5,4 @@ use Rattle.wire.proofs.read_u16.Goals as goal
 
 pub returns : goal.returns
 unfolding word16
-returns c = omega arith
+returns g c = (c.read_exact.new.buf, c.read_exact.auto.buf, c.in_ok-read_exact.ensures.bytes, omega arith)

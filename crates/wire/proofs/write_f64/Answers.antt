@@ -1,5 +1,6 @@
 -- `wire::write_f64` meets its contract. Assumes nothing.
+use Rattle.wire.proofs.Bytes.{bytes_of_u64}
 use Rattle.wire.proofs.write_f64.Goals as goal
 
 pub returns : goal.returns
-returns c = rw (← c.pattern.ensures) c.write_u64.ensures
+returns g c = rw (← bytes_of_u64 _, ← c.f64_to_bits_with_nan.ensures, ← c.to_le_bytes.ensures) c.write_all.ensures.bytes
