@@ -10,6 +10,7 @@ ghost use Rattle.matrix.specs.Vector.{vec};
 ghost use Rattle.engine.specs.Engine.{delta, perturbed, perturbed_entry, jacobian_entry, column_ok, error_norm, estimate, clamp, first_step};
 
 use evaluation::{PLACES, ROOM};
+use matrix::{Dimension, vector};
 
 // By how much a component is moved.
 fn delta(x: f64) -> f64
@@ -30,11 +31,7 @@ pub fn perturbed(state: &[f64; PLACES], j: usize, n: usize) -> [f64; PLACES]
     requires { n ≤ places }
     ensures { result ≡ perturbed n state.now j }
 {
-    let mut out = [0.0; PLACES];
-    for i in 0..n {
-        out[i] = perturbed_entry(state[i], i, j);
-    }
-    out
+    vector(Dimension::new(n), |i| perturbed_entry(state[i], i, j))
 }
 
 // Whether n differences, of an answer that begins at `at` and of f0, are finite once divided by d.
@@ -93,11 +90,7 @@ fn deltas(state: &[f64; PLACES], n: usize) -> [f64; PLACES]
     requires { n ≤ places }
     ensures { result ≡ vec n (λ j. delta (state.now ! j)) }
 {
-    let mut out = [0.0; PLACES];
-    for j in 0..n {
-        out[j] = delta(state[j]);
-    }
-    out
+    vector(Dimension::new(n), |j| delta(state[j]))
 }
 
 // Row i of the Jacobian, at the place `row`.

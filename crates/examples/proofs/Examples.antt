@@ -18,10 +18,10 @@ use Rattle.methods.specs.Schemes.{lawson_euler, norsett_euler, etd2, exprb32}
 use Rattle.methods.specs.Step.{pass, questions, finish, perform_step}
 use Rattle.engine.specs.Engine.{delta, perturbed_entry, perturbed, jacobian_entry, column_ok, ratio, root_mean, error_norm, rate, estimate, clamp, by_rates, first_step}
 use Rattle.session.specs.Tests.{tested as verdict, unless}
-use Rattle.session.specs.Session.{fresh, idle, clear, clear_answers, used_history, used_jacobian, step_clear, wanted, phase_with, phase_at, phase_of, phase_number, admits}
+use Rattle.session.specs.Session.{fresh, idle, clear, clear_answers, used_history, used_jacobian, step_clear, wanted, phase_at, phase_of, phase_number, admits}
 use Rattle.session.specs.Session.{size_ok, run_places, attempt_places, good1, history_ok, good2, good7, positive, tolerances_ok, good4, step_ok, good5, good3, session_tests}
 use Rattle.session.specs.Session.{previous_of, point_of, question, differencing, progress_of, progress}
-use Rattle.session.specs.Calls.{opened, nothing, begun, answered, has_error, ready_of, shown, vector_tests, attempt_of, attempt_tests, largest_tests}
+use Rattle.session.specs.Calls.{opened, nothing, begun, answered, has_error, ready_of, shown, vector_tests, attempt_tests, largest_tests}
 use Rattle.session.specs.Calls.{begin_tests, supply_tests, first_step_tests, open_call, begin_call, supply_call, first_step_call}
 use Rattle.session.specs.Bare.{exponential_tests, phi_tests, norm_tests, exponential_call, phi_call, norm_call}
 use Rattle.examples.specs.Examples.{only, pair, lent, running, resting, remembering, tolerating, begins, supplies, Gives, single, Squares, asked, differenced, jacobian_of}
@@ -48,13 +48,13 @@ schemes = 0
 
 -- the differencing, and the tests of a session
 unfoldable tests : ℕ
-unfolding delta perturbed_entry perturbed jacobian_entry column_ok clear clear_answers used_history used_jacobian step_clear wanted phase_with phase_at phase_of phase_number admits
+unfolding delta perturbed_entry perturbed jacobian_entry column_ok clear clear_answers used_history used_jacobian step_clear wanted phase_at phase_of phase_number admits
     size_ok run_places attempt_places good1 history_ok good2 good7 positive tolerances_ok good4 step_ok good5 good3 session_tests verdict unless
 tests = 0
 
 -- the calls
 unfoldable calls : ℕ
-unfolding previous_of point_of question differencing progress_of progress fresh idle opened nothing begun answered has_error ready_of shown vector_tests attempt_of attempt_tests largest_tests
+unfolding previous_of point_of question differencing progress_of progress fresh idle opened nothing begun answered has_error ready_of shown vector_tests attempt_tests largest_tests
     begin_tests supply_tests first_step_tests open_call begin_call supply_call first_step_call only pair lent running resting remembering tolerating begins supplies Gives asked differenced
 calls = 0
 

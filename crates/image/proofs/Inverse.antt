@@ -7,14 +7,15 @@ use borrow.Author.Tests.{lt-ltb}
 use lib.Ieee.{Float}
 use lib.ListN.{length, get_or}
 use lib.Seq.{ext_get_or}
+use Rattle.std.specs.Prelude.{Option, Some, None}
 use Rattle.loops.specs.Loop.{tab, from}
 use Rattle.loops.proofs.Loops.{length-tab, get_or-tab}
+use Rattle.session.specs.declared.Wish.TheVariants.{Given, Difference}
+use Rattle.session.specs.declared.Wish.{Wish}
 use Rattle.session.specs.declared.Session.{Session}
 use Rattle.session.specs.declared.Head.{Head}
 use Rattle.session.specs.declared.History.{History}
 use Rattle.session.specs.declared.History.TheVariants.{Missing, Held}
-use Rattle.session.specs.declared.Attempt.{Attempt}
-use Rattle.session.specs.declared.Attempt.TheVariants.{None, Supplied, Differenced}
 use Rattle.session.specs.Claims.{Typed}
 use Rattle.session.specs.Figures.{session_of, head_of}
 use Rattle.session.proofs.Inverse.{session_back, figures_back}
@@ -31,11 +32,11 @@ unfolding history_of
 history_kept Missing = refl
 history_kept Held = refl
 
-attempt_kept : (a : Attempt) → attempt_of (attempt_number a) ≡ a
+attempt_kept : (a : Option Wish) → attempt_of (attempt_number a) ≡ a
 unfolding attempt_of
 attempt_kept None = refl
-attempt_kept Supplied = refl
-attempt_kept Differenced = refl
+attempt_kept (Some Given) = refl
+attempt_kept (Some Difference) = refl
 
 history_back : (x : ℕ) → x ≤ 1 → history_number (history_of x) ≡ x
 unfolding history_of

@@ -1,5 +1,5 @@
 -- A session's image: its head, as words, and the figures that it crosses to other programs as, and what is told of an answer. Definitions only.
-use Rattle.std.specs.Prelude.{ℕ, ◌+◌, ◌≤◌, ◌<◌, ◌≡◌, cond, List, [], ◌∷◌, ltb, eqb, Float, length, get_or}
+use Rattle.std.specs.Prelude.{ℕ, ◌+◌, ◌≤◌, ◌<◌, ◌≡◌, cond, List, [], ◌∷◌, ltb, eqb, Float, length, get_or, Option, Some, None}
 use Rattle.image.specs.declared.Reply.{Reply}
 use Rattle.image.specs.declared.Outcome.{Outcome}
 use Rattle.image.specs.declared.Outcome.TheVariants as outcome
@@ -12,8 +12,6 @@ use Rattle.evaluation.specs.Sizes.{places, answer_room}
 use Rattle.session.specs.Session.{jacobian_room}
 use Rattle.session.specs.Figures.{FIGURES, session_of, head_of, figures_of}
 use Rattle.session.specs.Claims.{Typed}
-use Rattle.session.specs.declared.Attempt.{Attempt}
-use Rattle.session.specs.declared.Attempt.TheVariants.{None, Supplied, Differenced}
 use Rattle.session.specs.declared.Wish.{Wish}
 use Rattle.session.specs.declared.Wish.TheVariants.{Given, Difference}
 
@@ -74,8 +72,8 @@ scheme_of x = cond (ltb x 256) x 255
 unfoldable pub history_of : ℕ → History
 history_of x = cond (eqb x 0) Missing Held
 
-unfoldable pub attempt_of : ℕ → Attempt
-attempt_of x = cond (eqb x 0) None (cond (eqb x 1) Supplied Differenced)
+unfoldable pub attempt_of : ℕ → Option Wish
+attempt_of x = cond (eqb x 0) None (cond (eqb x 1) (Some Given) (Some Difference))
 
 unfoldable pub wish_of : ℕ → Wish
 wish_of x = cond (eqb x 0) Difference Given
@@ -84,10 +82,10 @@ abbrev pub history_number : History → ℕ
 history_number Missing = 0
 history_number Held = 1
 
-abbrev pub attempt_number : Attempt → ℕ
+abbrev pub attempt_number : Option Wish → ℕ
 attempt_number None = 0
-attempt_number Supplied = 1
-attempt_number Differenced = 2
+attempt_number (Some Given) = 1
+attempt_number (Some Difference) = 2
 
 -- ---- a session as words and figures
 

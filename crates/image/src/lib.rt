@@ -6,10 +6,10 @@
 #![tactic(auto)]
 
 ghost use Rattle.std.specs.Prelude.{Ok, ◌≡◌};
-ghost use Rattle.image.specs.Image.{scheme_of, history_of, attempt_of, wish_of, head_in, packed, outcome_number, fields};
+ghost use Rattle.image.specs.Image.{scheme_of, history_of, attempt_of, wish_of, attempt_number, head_in, packed, outcome_number, fields};
 ghost use Rattle.session.specs.Values.{figured, values_of};
 
-use session::{Answer, Attempt, Head, History, Refusal, Wish};
+use session::{Answer, Head, History, Refusal, Wish};
 // Among the figures; and how many figures there are, today and in the layout before request 1.
 pub use session::{
     ABSOLUTE_AT, ANSWERS_AT, DERIVATIVE_AT, FIGURES, JACOBIAN_AT, OLD_FIGURES, PREVIOUS_AT,
@@ -105,13 +105,13 @@ pub fn history_of(x: u64) -> History
 }
 
 #[tactic(auto, unfolding(crate::specs::Image::attempt_of))]
-fn attempt_of(x: u64) -> Attempt
+fn attempt_of(x: u64) -> Option<Wish>
     ensures { result ≡ attempt_of x }
 {
     match x {
-        0 => Attempt::None,
-        1 => Attempt::Supplied,
-        _ => Attempt::Differenced,
+        0 => None,
+        1 => Some(Wish::Given),
+        _ => Some(Wish::Difference),
     }
 }
 
@@ -122,6 +122,17 @@ pub fn wish_of(x: u64) -> Wish
     match x {
         0 => Wish::Difference,
         _ => Wish::Given,
+    }
+}
+
+#[tactic(auto, unfolding(crate::specs::Image::attempt_number))]
+fn attempt_number(a: Option<Wish>) -> u64
+    ensures { result ≡ attempt_number a }
+{
+    match a {
+        None => 0,
+        Some(Wish::Given) => 1,
+        Some(Wish::Difference) => 2,
     }
 }
 
@@ -151,7 +162,7 @@ pub fn numbers_of(k: Head) -> [u64; NUMBERS]
         k.scheme as u64,
         k.n as u64,
         k.history as u64,
-        k.attempt as u64,
+        attempt_number(k.attempt),
         k.count as u64,
     ]
 }

@@ -156,7 +156,7 @@ pub extern "C" fn vunchrem_bring_over(numbers: &[u64], old: &[f64], figures: &mu
     let Some(numbers) = numbers.as_array() else {
         return 1;
     };
-    if image::head_in(numbers).bring_over(old, figures) {
+    if image::head_in(numbers).bring_over(old, figures).is_some() {
         0
     } else {
         1

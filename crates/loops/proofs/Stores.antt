@@ -5,11 +5,14 @@ use Rattle.std.proofs.Math.Numerals.{add-one}
 use native.Mathlib.Decide.{ℕ_discrete, dec_lt}
 use lib.Ieee.{Float, nan}
 use Rattle.std.proofs.Math.ListN.{set, length-set, length-append, length-drop}
-use Rattle.std.proofs.Math.Seq.{get_or-set_same, get_or-set_other, set-get_or, ext_get_or, get_or-append-add, length-take-le}
+use Rattle.std.proofs.Math.Seq.{take-suc, get_or-set_same, get_or-set_other, set-get_or, ext_get_or, get_or-append-add, length-take-le}
 use borrow.Rule.Slice.PartMut.{put_mid}
+use Rattle.std.specs.List.{list_all}
 use Rattle.std.proofs.lemmas.List.{get_or-take, get_or-drop}
+use Rattle.std.proofs.lemmas.List.Folds.{list_all-append}
+use mathlib.Core.Bool.{Bool, ◌&&◌, and-true}
 use Rattle.std.proofs.lemmas.Slice.{take-put_mid_below, take-put_mid, drop-put_mid}
-use Rattle.loops.specs.Loop.{iter, tab, stores, ◌!◌}
+use Rattle.loops.specs.Loop.{iter, every, tab, stores, ◌!◌}
 use Rattle.loops.proofs.Loops.{length-tab, tab_at}
 
 -- a list is a tab by its entries
@@ -20,6 +23,16 @@ is_tab n f l e h =
 -- two tabs of the same entries are one
 pub tab_ext : (n : ℕ) (f g : ℕ → Float) → ((p : ℕ) → p < n → f p ≡ g p) → tab n f ≡ tab n g
 tab_ext n f g h = is_tab n g (tab n f) (length-tab n f) (λ p q. tab_at n f p q ∙ h p q)
+
+-- the first n of a list are its tab
+pub tab_first : (x : List Float) (n : ℕ) → n ≤ length x → take n x ≡ tab n (λ i. x ! i)
+tab_first x n h = is_tab n (λ i. x ! i) (take n x) (length-take-le n x h) (λ p q. get_or-take n x p nan q)
+
+-- the library's test of each, of the first n
+pub all_first : (p : Float → Bool) (x : List Float) (n : ℕ) → n ≤ length x → list_all p (take n x) ≡ every n (λ i. p (x ! i))
+unfolding every
+all_first p x zero h = refl
+all_first p x (suc n) h = rw (take-suc x n nan (omega arith), list_all-append, all_first p x n (omega arith), and-true)
 
 -- ---- what stands where after a run of stores
 stores-zero : (g : ℕ → Float → Float) (b : ℕ) (o : List Float) → stores g b zero o ≡ o

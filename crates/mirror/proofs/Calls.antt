@@ -12,24 +12,21 @@ use borrow.Author.Tests.{lt-leb}
 use Rattle.float.specs.Arith.{◌⊕◌, zero+, finite}
 use Rattle.methods.specs.Step.{Progress, refused, asking, ended}
 use Rattle.engine.specs.Engine.{first_step}
-use Rattle.std.specs.Prelude.{Result, Ok, Err, ⊤}
+use Rattle.std.specs.Prelude.{Result, Ok, Err, ⊤, Option, Some, None}
+use Rattle.session.specs.declared.Phase.{Phase}
 use Rattle.session.specs.declared.Refusal.{Refusal}
 use Rattle.session.specs.declared.Refusal.TheVariants as Why
 use Rattle.session.specs.declared.Session.{Session}
 use Rattle.session.specs.declared.Told.{Told}
 use Rattle.methods.specs.declared.Work.{Work}
 use Rattle.session.specs.declared.Answer.TheVariants.{Ready, FirstStep}
-use Rattle.session.specs.declared.Attempt.{Attempt}
-use Rattle.session.specs.declared.Attempt.TheVariants.{Supplied, Differenced}
 use Rattle.session.specs.declared.Wish.{Wish}
 use Rattle.session.specs.declared.Wish.TheVariants.{Given, Difference}
 use Rattle.session.specs.declared.Phase.TheVariants.{Rest, Asking, Waiting}
-use Rattle.session.specs.declared.Wants.{Wants}
-use Rattle.session.specs.declared.Wants.TheVariants.{Any, Only}
 use Rattle.session.specs.Tests.{tested, unless}
 use Rattle.session.specs.Values.{is_refused, values_of, figured}
 use Rattle.session.specs.Session.{Run, used_jacobian, size_ok, wanted, good1, session_tests}
-use Rattle.session.specs.Calls.{Outcome, outcome, tell, refuse, refuse_lent, opened, nothing, has_error, ready_of, shown, arrived, settled, attempt_of}
+use Rattle.session.specs.Calls.{Outcome, outcome, tell, refuse, refuse_lent, opened, nothing, has_error, ready_of, shown, arrived, settled}
 use Rattle.session.specs.Calls.{vector_tests, attempt_tests, largest_tests, begin_tests, supply_tests, accept_tests, first_step_tests}
 use Rattle.session.specs.Calls.{open_call, begin_call, supply_call, accept_call, drop_call, first_step_call}
 use Rattle.session.proofs.Drops.{nothing-tested, nothing_then}
@@ -111,35 +108,35 @@ module _ {n : ℕ} {σ : ℕ → Bool} where
   length_m : {s s' : Session} (o o' : List Float) → length o ≡ length o' → Lives n σ s s' → eqb (length o) s.n ≡ eqb (length o') s'.n
   length_m o o' e (live N (run_m k t rtol atol held U F W) T) = ap (λ (z : ℕ). eqb z n) e
 
-  begin_tests_lem : {s s' : Session} {j j' : List Float} (o o' : List Float) (h : Float) (a : Attempt) → length o ≡ length o' → Lives n σ s s'
+  begin_tests_lem : {s s' : Session} {j j' : List Float} (o o' : List Float) (h : Float) (a : Option Wish) → length o ≡ length o' → Lives n σ s s'
       → Placed (within (used_jacobian a n)) (cross n σ) j j' → begin_tests s h a j (length o) ≡ begin_tests s' h a j' (length o')
   unfolding begin_tests
-  begin_tests_lem {s} {s'} {j} {j'} o o' h a e S J = ap₂ ◌++◌ (tests_m (Only Rest) S) (handed S)
+  begin_tests_lem {s} {s'} {j} {j'} o o' h a e S J = ap₂ ◌++◌ (tests_m (Some Rest) S) (handed S)
     where
       handed : {t t' : Session} → Lives n σ t t' → attempt_tests t.n h a j (length o) ≡ attempt_tests t'.n h a j' (length o')
       handed (live N (run_m k t rtol atol held U F W) T) = unfold attempt_tests in rw (clear_p (used_jacobian a n) J, e, finite_p J)
 
   -- ---- the calls
-  pub begin_m : {s s' : Session} {j j' : List Float} (o o' : List Float) (h : Float) → length o ≡ length o' → Lives n σ s s' → Placed (within (used_jacobian Supplied n)) (cross n σ) j j'
+  pub begin_m : {s s' : Session} {j j' : List Float} (o o' : List Float) (h : Float) → length o ≡ length o' → Lives n σ s s' → Placed (within (used_jacobian (Some Given) n)) (cross n σ) j j'
       → Outcomes n σ (begin_call s h Given j o) (begin_call s' h Given j' o')
-  unfolding begin_call attempt_of
+  unfolding begin_call
   begin_m o o' h e S J =
-      let B = begun_m h Supplied refl S J in
-      lent_m o o' _ _ (ap tested (begin_tests_lem o o' h Supplied e S J)) (alive S) (shown_m o o' S B (progress_m B))
+      let B = begun_m h (Some Given) refl S J in
+      lent_m o o' _ _ (ap tested (begin_tests_lem o o' h (Some Given) e S J)) (alive S) (shown_m o o' S B (progress_m B))
 
   pub supply_m : {s s' : Session} {x x' : List Float} (o o' : List Float) → length o ≡ length o' → Lives n σ s s' → Placed (within n) σ x x' → Outcomes n σ (supply_call s x o) (supply_call s' x' o')
   unfolding supply_call supply_tests
   supply_m o o' e S X =
       let B = answered_m S X in
-      lent_m o o' _ _ (ap₂ (λ a b. tested (a ++ b)) (tests_m (Only Asking) S) (vector_m _ _ (length_m o o' e S) S X)) (alive S) (shown_m o o' S B (progress_m B))
+      lent_m o o' _ _ (ap₂ (λ a b. tested (a ++ b)) (tests_m (Some Asking) S) (vector_m _ _ (length_m o o' e S) S X)) (alive S) (shown_m o o' S B (progress_m B))
 
   pub accept_m : {s s' : Session} {x x' : List Float} → Lives n σ s s' → Placed (within n) σ x x' → Tolds n σ (accept_call s x) (accept_call s' x')
   unfolding accept_call accept_tests
-  accept_m S X = told_m _ _ (ap₂ (λ a b. tested (a ++ b)) (tests_m (Only Waiting) S) (vector_m true true refl S X)) (alive S) (settled_m S X (progress_m S))
+  accept_m S X = told_m _ _ (ap₂ (λ a b. tested (a ++ b)) (tests_m (Some Waiting) S) (vector_m true true refl S X)) (alive S) (settled_m S X (progress_m S))
 
   pub drop_m : {s s' : Session} → Lives n σ s s' → Tolds n σ (drop_call s) (drop_call s')
   unfolding drop_call
-  drop_m S = told_m _ _ (ap tested (tests_m Any S)) (alive S) (record { answers = refl; sessions = alive (rested_m S) })
+  drop_m S = told_m _ _ (ap tested (tests_m None S)) (alive S) (record { answers = refl; sessions = alive (rested_m S) })
 
   first_told : {s s' : Session} (z : Float) → Lives n σ s s'
       → Tolds n σ
@@ -150,7 +147,7 @@ module _ {n : ℕ} {σ : ℕ → Bool} where
 
   pub first_step_m : {s s' : Session} (z : Float) → Lives n σ s s' → Tolds n σ (first_step_call s z) (first_step_call s' z)
   unfolding first_step_call first_step_tests
-  first_step_m z S = told_m _ _ (ap (λ a. tested (a ++ largest_tests z)) (tests_m Any S)) (alive S) (first_told z S)
+  first_step_m z S = told_m _ _ (ap (λ a. tested (a ++ largest_tests z)) (tests_m None S)) (alive S) (first_told z S)
 
 -- a step that is refused gives back the session and the output as they came
 shown_refused : (b s : Session) (o : List Float) (p : Progress) → is_refused (shown b s o p).told.answer ≡ true → shown b s o p ≡ refuse_lent b o Why.Arithmetic
@@ -160,7 +157,7 @@ shown_refused b s o (asking x t) e = absurd (false≢true e)
 shown_refused b s o (ended x d g w) e = absurd (false≢true e)
 
 -- ---- refusals for the dimension
-size_tested : (wants : Wants) (s : Session) → size_ok s.n ≡ false → tested (session_tests wants s) ≡ Err Why.Places
+size_tested : (wants : Option Phase) (s : Session) → size_ok s.n ≡ false → tested (session_tests wants s) ≡ Err Why.Places
 unfolding tested session_tests good1
 size_tested wants s e = rw e
 
@@ -168,8 +165,8 @@ size_past : (n : ℕ) → 16 < n → size_ok n ≡ false
 unfolding size_ok
 size_past n h = ap (λ (b : Bool). leb 1 n && b) (lt-leb n 16 h) ∙ and-false (leb 1 n)
 
-past_tested : (r : Run) → 16 < r.n → tested (session_tests Any (opened r)) ≡ Err Why.Places
-past_tested r h = size_tested Any (opened r) (unfold opened in size_past r.n h)
+past_tested : (r : Run) → 16 < r.n → tested (session_tests None (opened r)) ≡ Err Why.Places
+past_tested r h = size_tested None (opened r) (unfold opened in size_past r.n h)
 
 module _ {n : ℕ} {σ : ℕ → Bool} where
   told_void : (r r' : Told) (k k' : Result ⊤ Refusal) → k ≡ Err Why.Places → k' ≡ Err Why.Places → Tolds n σ (unless k (refuse nothing) r) (unless k' (refuse nothing) r')
@@ -182,28 +179,28 @@ module _ {n : ℕ} {σ : ℕ → Bool} where
 
   pub begin_void : (h : Float) (w w' : Wish) (j j' o o' : List Float) → Outcomes n σ (begin_call nothing h w j o) (begin_call nothing h w' j' o')
   unfolding begin_call begin_tests
-  begin_void h w w' j j' o o' = lent_void o o' _ _ _ _ (nothing_then (Only Rest) _) (nothing_then (Only Rest) _)
+  begin_void h w w' j j' o o' = lent_void o o' _ _ _ _ (nothing_then (Some Rest) _) (nothing_then (Some Rest) _)
 
   pub supply_void : (x x' o o' : List Float) → Outcomes n σ (supply_call nothing x o) (supply_call nothing x' o')
   unfolding supply_call supply_tests
-  supply_void x x' o o' = lent_void o o' _ _ _ _ (nothing_then (Only Asking) _) (nothing_then (Only Asking) _)
+  supply_void x x' o o' = lent_void o o' _ _ _ _ (nothing_then (Some Asking) _) (nothing_then (Some Asking) _)
 
   pub accept_void : (x x' : List Float) → Tolds n σ (accept_call nothing x) (accept_call nothing x')
   unfolding accept_call accept_tests
-  accept_void x x' = told_void _ _ _ _ (nothing_then (Only Waiting) _) (nothing_then (Only Waiting) _)
+  accept_void x x' = told_void _ _ _ _ (nothing_then (Some Waiting) _) (nothing_then (Some Waiting) _)
 
   pub drop_void : Tolds n σ (drop_call nothing) (drop_call nothing)
   unfolding drop_call
-  drop_void = told_void _ _ _ _ (nothing-tested Any) (nothing-tested Any)
+  drop_void = told_void _ _ _ _ (nothing-tested None) (nothing-tested None)
 
   pub first_step_void : (z : Float) → Tolds n σ (first_step_call nothing z) (first_step_call nothing z)
   unfolding first_step_call first_step_tests
-  first_step_void z = told_void _ _ _ _ (nothing_then Any _) (nothing_then Any _)
+  first_step_void z = told_void _ _ _ _ (nothing_then None _) (nothing_then None _)
 
   -- ---- open
   small_m : {r r' : Run} → n ≤ 16 → Runs n σ r r' → Tolds n σ (open_call r) (open_call r')
   unfolding open_call
-  small_m N R = let S = opened_m N R in told_m _ _ (ap tested (tests_m Any S)) void (record { answers = refl; sessions = alive S })
+  small_m N R = let S = opened_m N R in told_m _ _ (ap tested (tests_m None S)) void (record { answers = refl; sessions = alive S })
 
   past_m : {r r' : Run} → 16 < n → Runs n σ r r' → Tolds n σ (open_call r) (open_call r')
   unfolding open_call
@@ -225,9 +222,9 @@ module _ {n : ℕ} {σ : ℕ → Bool} where
       go (Ok passed) q q' = unfold unless in subst₂ (λ (a b : Outcome). Outcomes n σ a b) (sym (f q)) (sym (f' q')) (refused_outcome Why.Arithmetic (alive S))
       go (Err why) q q' = unfold unless in refused_outcome why (alive S)
 
-  pub difference_m : {s s' : Session} {j j' : List Float} (o o' : List Float) (h : Float) → length o ≡ length o' → Lives n σ s s' → Placed (within (used_jacobian Differenced n)) (cross n σ) j j'
+  pub difference_m : {s s' : Session} {j j' : List Float} (o o' : List Float) (h : Float) → length o ≡ length o' → Lives n σ s s' → Placed (within (used_jacobian (Some Difference) n)) (cross n σ) j j'
       → is_refused (begin_call s h Difference j o).told.answer ≡ true → is_refused (begin_call s' h Difference j' o').told.answer ≡ true
       → Outcomes n σ (begin_call s h Difference j o) (begin_call s' h Difference j' o')
-  unfolding begin_call attempt_of
+  unfolding begin_call
   difference_m {s} {s'} o o' h e S J q q' =
-      declined o o' _ _ (ap tested (begin_tests_lem o o' h Differenced e S J)) S (shown_refused _ _ o _) (shown_refused _ _ o' _) q q'
+      declined o o' _ _ (ap tested (begin_tests_lem o o' h (Some Difference) e S J)) S (shown_refused _ _ o _) (shown_refused _ _ o' _) q q'

@@ -14,7 +14,7 @@ use Rattle.session.specs.declared.Session.{Session}
 use Rattle.session.specs.declared.Wish.TheVariants.{Given, Difference}
 use Rattle.session.specs.Values.{is_refused}
 use Rattle.session.specs.Session.{Run, Trial}
-use Rattle.session.specs.Calls.{Outcome, nothing, opened, attempt_of}
+use Rattle.session.specs.Calls.{Outcome, nothing, opened}
 use Rattle.session.specs.Runs.{Call, perform, opening, run}
 use Rattle.mirror.specs.Mirror.{flip, flipped, flipped_opening, FlippedCall, begins, supplies, accepts, drops, first_steps, FlippedCalls, no_call, and_call, wishes_difference}
 use Rattle.mirror.specs.Mirror.{Undifferenced, Alike, MirroredRun, MirroredTrial, Mirrored, SameOutcome, SameOutcomes, no_outcome, and_outcome, MirroredRuns}
@@ -52,7 +52,7 @@ flipped_m used turned x = record { size = sym (length-tab (length x) turn); at =
 call_m : {n : ℕ} {turned : ℕ → Bool} {c c' : Call} {s s' : Session} → FlippedCall n turned c c' → Sessions n turned s s'
     → (wishes_difference c ≡ true → is_refused (perform c s).told.answer ≡ true) → (wishes_difference c' ≡ true → is_refused (perform c' s').told.answer ≡ true)
     → Outcomes n turned (perform c s) (perform c' s')
-unfolding perform wishes_difference attempt_of
+unfolding perform wishes_difference
 call_m (begins h w j o o' e) void q q' = begin_void h w w j _ o o'
 call_m (supplies x o o' e) void q q' = supply_void x _ o o'
 call_m (accepts x) void q q' = bare_m (accept_void x _)

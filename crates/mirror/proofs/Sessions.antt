@@ -7,17 +7,18 @@ use mathlib.Core.List.{List}
 use lib.Dec.{eqb}
 use lib.IntN.{pos}
 use lib.Ieee.{Float, binary64, of_int}
+use Rattle.std.specs.Prelude.{Option, Some, None}
 use Rattle.loops.specs.Loop.{◌!◌}
 use Rattle.float.proofs.Sums.{sum_ext, most_ext}
 use Rattle.float.specs.Arith.{◌⊕◌, ◌⊗◌, ◌⊘◌, zero+, finite, abs, larger, powi2}
 use Rattle.float.specs.Root.{sqrt}
 use Rattle.engine.specs.Engine.{ratio, root_mean, error_norm, rate, estimate, clamp, by_rates, first_step}
+use Rattle.session.specs.declared.Phase.{Phase}
+use Rattle.session.specs.declared.Wish.TheVariants.{Given, Difference}
+use Rattle.session.specs.declared.Wish.{Wish}
 use Rattle.session.specs.declared.Session.{Session}
 use Rattle.session.specs.declared.History.{History}
 use Rattle.session.specs.declared.History.TheVariants.{Missing, Held}
-use Rattle.session.specs.declared.Attempt.{Attempt}
-use Rattle.session.specs.declared.Attempt.TheVariants.{None, Supplied, Differenced}
-use Rattle.session.specs.declared.Wants.{Wants}
 use Rattle.session.specs.Session.{Run, Trial, joined, fresh, idle, clear, used_history, used_jacobian, size_ok, step_clear, run_places, attempt_places}
 use Rattle.session.specs.Session.{good1, good2, good3, good4, good5, good7, phase_of, session_tests, previous_of, point_of, progress_of, progress}
 use Rattle.session.specs.Calls.{opened, nothing, begun, rested, answered, moved}
@@ -28,10 +29,10 @@ use Rattle.mirror.proofs.Passes.{Pasts, no_past, past, points}
 use Rattle.mirror.proofs.Steps.{Progresses, refused_m, step_m}
 use Rattle.mirror.proofs.Places.{Placed, slots, slot, blank_m, finite_p, clear_p, clear-answers, vecs, mats, answer_m, store_m}
 
-abbrev pub is_differenced : Attempt → Bool
+abbrev pub is_differenced : Option Wish → Bool
 is_differenced None = false
-is_differenced Supplied = false
-is_differenced Differenced = true
+is_differenced (Some Given) = false
+is_differenced (Some Difference) = true
 
 -- ---- two runs, two attempts, two sessions
 
@@ -44,7 +45,7 @@ pub data Runs (n : ℕ) (σ : ℕ → Bool) : Run → Run → Type 0 where
 
 -- no Jacobian is differenced
 pub data Trials (n : ℕ) (σ : ℕ → Bool) : Trial → Trial → Type 0 where
-  trial_m : (h : Float) (a : Attempt) (c : ℕ) {j j' r r' : List Float} → is_differenced a ≡ false
+  trial_m : (h : Float) (a : Option Wish) (c : ℕ) {j j' r r' : List Float} → is_differenced a ≡ false
       → Placed (within (used_jacobian a n)) (cross n σ) j j' → Placed (slots c n) (slot σ) r r'
       → Trials n σ
       (record { attempt = a; step = h; jacobian = j; count = c; answers = r })
@@ -79,7 +80,7 @@ module _ {n : ℕ} {σ : ℕ → Bool} where
   unfolding good2
   good2_m (live N (run_m k t rtol atol held U F W) (trial_m h a c D J R)) = refl
 
-  good7_m : {s s' : Session} (wants : Wants) → Lives n σ s s' → good7 wants s ≡ good7 wants s'
+  good7_m : {s s' : Session} (wants : Option Phase) → Lives n σ s s' → good7 wants s ≡ good7 wants s'
   unfolding good7 phase_of
   good7_m wants (live N (run_m k t rtol atol held U F W) (trial_m h a c D J R)) = refl
 
@@ -95,7 +96,7 @@ module _ {n : ℕ} {σ : ℕ → Bool} where
   good3_m (live N (run_m k t rtol atol held U F W) (trial_m h a c D J R)) =
       λ i. finite t && finite_p U i && finite_p F i && finite_p W i && finite_p J i && finite_p R i
 
-  pub tests_m : {s s' : Session} (wants : Wants) → Lives n σ s s' → session_tests wants s ≡ session_tests wants s'
+  pub tests_m : {s s' : Session} (wants : Option Phase) → Lives n σ s s' → session_tests wants s ≡ session_tests wants s'
   unfolding session_tests
   tests_m wants S = rw (good1_m S, good2_m S, good7_m wants S, good4_m S, good5_m S, good3_m S)
 
@@ -131,9 +132,9 @@ module _ {n : ℕ} {σ : ℕ → Bool} where
   pub progress_m : {s s' : Session} → Lives n σ s s' → Progresses n σ (progress s) (progress s')
   unfolding progress progress_of point_of used_jacobian
   progress_m (live N (run_m k t rtol atol held U F W) (trial_m h None c D J R)) = refused_m
-  progress_m (live N (run_m k t rtol atol held U F W) (trial_m h Supplied c {r = r} {r' = r'} D J R)) =
+  progress_m (live N (run_m k t rtol atol held U F W) (trial_m h (Some Given) c {r = r} {r' = r'} D J R)) =
       step_m r r' k (c - 0) (points t h (vecs U) (vecs F) (history_m held W)) (mats J) (λ j l. answer_m c N R j (omega arith))
-  progress_m (live N (run_m k t rtol atol held U F W) (trial_m h Differenced c D J R)) = absurd (true≢false D)
+  progress_m (live N (run_m k t rtol atol held U F W) (trial_m h (Some Difference) c D J R)) = absurd (true≢false D)
 
   -- ---- the sessions that the calls make
   pub idle_m : Trials n σ idle idle
@@ -144,7 +145,7 @@ module _ {n : ℕ} {σ : ℕ → Bool} where
   unfolding opened
   opened_m N R = live N R idle_m
 
-  pub begun_m : {s s' : Session} {j j' : List Float} (h : Float) (a : Attempt) → is_differenced a ≡ false → Lives n σ s s'
+  pub begun_m : {s s' : Session} {j j' : List Float} (h : Float) (a : Option Wish) → is_differenced a ≡ false → Lives n σ s s'
       → Placed (within (used_jacobian a n)) (cross n σ) j j' → Lives n σ (begun s h a j) (begun s' h a j')
   unfolding begun fresh
   begun_m h a E (live N R T) J = live N R (trial_m h a 0 E J (blank_m _ _ 320))

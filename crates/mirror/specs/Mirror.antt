@@ -1,5 +1,5 @@
 -- Demand 3, as document 01's 'The mirrored runs of demand 3' reads it: one statement about an opening and a list of calls. Definitions only.
-use Rattle.std.specs.Prelude.{ℕ, ◌/◌, ◌%◌, ◌<◌, ◌≡◌, ◌⊎◌, Bool, true, false, ◌&&◌, List, [], ◌∷◌, ltb, pos, Float, length}
+use Rattle.std.specs.Prelude.{ℕ, ◌/◌, ◌%◌, ◌<◌, ◌≡◌, ◌⊎◌, Bool, true, false, ◌&&◌, List, [], ◌∷◌, ltb, pos, Float, length, Some}
 use Rattle.std.specs.Float.{nan, inf, fin}
 use Rattle.std.specs.Float.Ieee.{unlike}
 use Rattle.loops.specs.Loop.{tab, ◌!◌}
@@ -8,7 +8,7 @@ use Rattle.session.specs.declared.Wish.{Wish}
 use Rattle.session.specs.declared.Wish.TheVariants.{Given, Difference}
 use Rattle.session.specs.Values.{is_refused}
 use Rattle.session.specs.Session.{Run, Trial, run_of, trial_of, used_history, used_jacobian, in_answers}
-use Rattle.session.specs.Calls.{Outcome, attempt_of}
+use Rattle.session.specs.Calls.{Outcome}
 use Rattle.session.specs.Runs.{Call, begin, supply, accept, drop, first_step, perform, opening, run}
 
 -- The runs, 'Two runs of demand 2's definition open, then make the same calls .. in any order and number, none too', are those of the session's specs/Runs.antt:
@@ -50,7 +50,7 @@ flipped_opening turned o = record {
 -- 'All else handed in, and each lent output's length, is the same'
 pub data FlippedCall (n : ℕ) (turned : ℕ → Bool) : Call → Call → Type 0 where
   begins : (step : Float) (wish : Wish) (jacobian out out' : List Float) → length out ≡ length out'
-      → FlippedCall n turned (begin step wish jacobian out) (begin step wish (flipped (within (used_jacobian (attempt_of wish) n)) (entry_turned n turned) jacobian) out')
+      → FlippedCall n turned (begin step wish jacobian out) (begin step wish (flipped (within (used_jacobian (Some wish) n)) (entry_turned n turned) jacobian) out')
   supplies : (answer out out' : List Float) → length out ≡ length out' → FlippedCall n turned (supply answer out) (supply (flipped (within n) turned answer) out')
   accepts : (derivative : List Float) → FlippedCall n turned (accept derivative) (accept (flipped (within n) turned derivative))
   drops : FlippedCall n turned drop drop

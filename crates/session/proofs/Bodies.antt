@@ -1,7 +1,7 @@
 -- The calls over lent figures, from what their steps leave. Assumes nothing.
 use Prim.Native.Nat.{ℕ, ◌<◌}
 use mathlib.Core.Path.{◌≡◌, refl, sym, ap, ◌∙◌, subst}
-use mathlib.Core.Bool.{Bool, true, false, cond, ◌&&◌}
+use mathlib.Core.Bool.{Bool, true, false, ◌&&◌}
 use mathlib.Core.List.{List}
 use lib.Dec.{eqb}
 use lib.Ieee.{Float}
@@ -9,7 +9,7 @@ use lib.ListN.{length}
 use borrow.Author.Tests.{eq-eqb, ne_eqb}
 use Rattle.loops.proofs.Bools.{both_true}
 use Rattle.evaluation.specs.Sizes.{answers_kept}
-use Rattle.std.specs.Prelude.{Result, Ok, Err, ⊤}
+use Rattle.std.specs.Prelude.{Result, Ok, Err, ⊤, Some, None}
 use Rattle.session.specs.declared.Refusal.{Refusal}
 use Rattle.session.specs.declared.Refusal.TheVariants as Why
 use Rattle.session.specs.declared.Session.{Session}
@@ -17,14 +17,12 @@ use Rattle.session.specs.declared.Head.{Head}
 use Rattle.session.specs.declared.Left.{Left}
 use Rattle.session.specs.declared.Told.{Told}
 use Rattle.session.specs.declared.Answer.{Answer}
-use Rattle.session.specs.declared.Attempt.{Attempt}
 use Rattle.session.specs.declared.Wish.{Wish}
 use Rattle.session.specs.declared.Phase.TheVariants.{Rest, Asking}
-use Rattle.session.specs.declared.Wants.TheVariants.{Any, Only}
 use Rattle.session.specs.Tests.{tested, condition, unless}
 use Rattle.session.specs.Session.{Run, Sound, clear, used_jacobian, admits, good7, session_tests, progress}
 use Rattle.session.specs.Claims.{Closed}
-use Rattle.session.specs.Calls.{Outcome, outcome, tell, refuse, refuse_lent, nothing, begun, rested, answered, shown, attempt_of}
+use Rattle.session.specs.Calls.{Outcome, outcome, tell, refuse_lent, nothing, begun, rested, answered, shown}
 use Rattle.session.specs.Calls.{open_call, attempt_tests, begin_tests, supply_tests, begin_call, supply_call}
 use Rattle.session.specs.Figures.{FIGURES, session_of, head_of, figures_of}
 use Rattle.session.specs.Lent.{told_by, refused_by, Remains, remains, left, fills, lent_call, lent_open, lent_fill}
@@ -34,45 +32,37 @@ use Rattle.session.proofs.Inverse.{figures_back}
 
 -- ---- begin
 
-module _ (s : Session) (step : Float) (w : Wish) (j out : List Float) {a : Attempt} (wish : a ≡ attempt_of w) {k : Result ⊤ Refusal}
-    (given : k ≡ tested (begin_tests s step a j (length out))) where
-  e : k ≡ tested (begin_tests s step (attempt_of w) j (length out))
-  e = given ∙ ap (λ (b : Attempt). tested (begin_tests s step b j (length out))) wish
-
+module _ (s : Session) (step : Float) (w : Wish) (j out : List Float) {k : Result ⊤ Refusal} (e : k ≡ tested (begin_tests s step (Some w) j (length out))) where
   pub begin_refused : {why : Refusal} → k ≡ Err why → {l : Left} (x : List Float) (n : Head) → l ≡ refused_by n why → session_of n x ≡ s
       → outcome (told_by l x) out ≡ begin_call s step w j out
   unfolding begin_call unless
   begin_refused h x n f g = rw (f, g, ← e, h)
 
   module _ (z : k ≡ Ok tt) where
-    pub begin_rests : tested (session_tests (Only Rest) s) ≡ Ok tt
-    begin_rests = (begin_passes s step (attempt_of w) j (length out) (sym e ∙ z)).0
+    pub begin_rests : tested (session_tests (Some Rest) s) ≡ Ok tt
+    begin_rests = (begin_passes s step (Some w) j (length out) (sym e ∙ z)).0
 
-    begin_attempt : tested (attempt_tests s.n step (attempt_of w) j (length out)) ≡ Ok tt
-    begin_attempt = (begin_passes s step (attempt_of w) j (length out) (sym e ∙ z)).1
+    begin_attempt : tested (attempt_tests s.n step (Some w) j (length out)) ≡ Ok tt
+    begin_attempt = (begin_passes s step (Some w) j (length out) (sym e ∙ z)).1
 
-    pub begin_clear : clear (used_jacobian a s.n) j ≡ true
+    pub begin_clear : clear (used_jacobian (Some w) s.n) j ≡ true
     begin_clear =
-        ap (λ (b : Attempt). clear (used_jacobian b s.n) j) wish
-        ∙ (both_true (clear (used_jacobian (attempt_of w) s.n) j) (eqb (length out) s.n)
-        (unfold condition attempt_tests in attempt_row s.n step (attempt_of w) j (length out) begin_attempt Why.Places)).0
+        (both_true (clear (used_jacobian (Some w) s.n) j) (eqb (length out) s.n)
+        (unfold condition attempt_tests in attempt_row s.n step (Some w) j (length out) begin_attempt Why.Places)).0
 
     pub begin_room : length out ≡ s.n
-    begin_room = begin_length s.n step (attempt_of w) j (length out) begin_attempt
+    begin_room = begin_length s.n step (Some w) j (length out) begin_attempt
 
     -- the session that it goes on with
-    module _ (next : Session) (made : next ≡ begun s step a j) where
-      same : next ≡ begun s step (attempt_of w) j
-      same = made ∙ ap (λ (b : Attempt). begun s step b j) wish
-
+    module _ (next : Session) (same : next ≡ begun s step (Some w) j) where
       pub begin_sound : Sound next
-      begin_sound = subst Sound (sym same) (begun_sound s step w j (passed_sound (Only Rest) s begin_rests))
+      begin_sound = subst Sound (sym same) (begun_sound s step w j (passed_sound (Some Rest) s begin_rests))
 
-      pub begin_any : tested (session_tests Any next) ≡ Ok tt
+      pub begin_any : tested (session_tests None next) ≡ Ok tt
       unfolding Closed good7 admits
       begin_any =
-          ap (λ (r : Session). tested (session_tests Any r)) same
-          ∙ good_closed (begun_good s step w j (length out) (passed_good (Only Rest) s begin_rests) begin_attempt) Any
+          ap (λ (r : Session). tested (session_tests None r)) same
+          ∙ good_closed (begun_good s step w j (length out) (passed_good (Some Rest) s begin_rests) begin_attempt) None
 
       pub begin_shown : (answer : Answer) {out' : List Float} → outcome (tell answer next) out' ≡ shown s next out (progress next) → outcome (tell answer next) out' ≡ begin_call s step w j out
       unfolding begin_call unless
@@ -93,7 +83,7 @@ module _ (s : Session) (x out : List Float) {k : Result ⊤ Refusal} (e : k ≡ 
   supply_refused h y n f g = rw (f, g, ← e, h)
 
   module _ (z : k ≡ Ok tt) where
-    pub supply_asks : tested (session_tests (Only Asking) s) ≡ Ok tt
+    pub supply_asks : tested (session_tests (Some Asking) s) ≡ Ok tt
     supply_asks = (supply_passes s x (length out) (sym e ∙ z)).0
 
     pub supply_early : s.count < answers_kept
@@ -104,7 +94,7 @@ module _ (s : Session) (x out : List Float) {k : Result ⊤ Refusal} (e : k ≡ 
 
     module _ (next : Session) (same : next ≡ answered s x) where
       pub supply_sound : Sound next
-      supply_sound = subst Sound (sym same) (answered_sound s x (passed_sound (Only Asking) s supply_asks) (wants_more s supply_asks))
+      supply_sound = subst Sound (sym same) (answered_sound s x (passed_sound (Some Asking) s supply_asks) (wants_more s supply_asks))
 
       pub supply_shown : (answer : Answer) {out' : List Float} → outcome (tell answer next) out' ≡ shown s next out (progress next) → outcome (tell answer next) out' ≡ supply_call s x out
       unfolding supply_call unless

@@ -1,5 +1,5 @@
 -- A session that an accepted call returns is refused by nothing but 7. Assumes nothing.
-use Prim.Native.Nat.{ℕ, suc, ◌+◌, ◌<◌}
+use Prim.Native.Nat.{ℕ, ◌+◌, ◌<◌}
 use native.Mathlib.Decide.{ℕ_discrete}
 use native.Mathlib.Omega.{arith}
 use mathlib.Core.Path.{◌≡◌, refl, sym, subst}
@@ -18,24 +18,22 @@ use Rattle.methods.specs.Sizes.{etd2_number}
 use Rattle.methods.specs.declared.Work.{Work}
 use Rattle.methods.specs.Step.{Progress, refused, asking, ended}
 use Rattle.methods.specs.Shape.{Whole}
-use Rattle.std.specs.Prelude.{Ok, Result, Err, ⊤}
+use Rattle.std.specs.Prelude.{Ok, Result, Err, ⊤, Option, Some, None}
+use Rattle.session.specs.declared.Phase.{Phase}
 use Rattle.session.specs.declared.Refusal.{Refusal}
 use Rattle.session.specs.declared.Refusal.TheVariants as Why
 use Rattle.session.specs.declared.Session.{Session}
 use Rattle.session.specs.declared.Told.{Told}
 use Rattle.session.specs.declared.Answer.TheVariants.{Resting}
 use Rattle.session.specs.declared.History.TheVariants.{Held}
-use Rattle.session.specs.declared.Attempt.TheVariants.{None}
 use Rattle.session.specs.declared.Wish.{Wish}
 use Rattle.session.specs.declared.Wish.TheVariants.{Given, Difference}
 use Rattle.session.specs.declared.Phase.TheVariants.{Rest, Asking, Waiting}
-use Rattle.session.specs.declared.Wants.{Wants}
-use Rattle.session.specs.declared.Wants.TheVariants.{Any, Only}
 use Rattle.session.specs.Tests.{tested, condition, unless}
 use Rattle.session.specs.Values.{number, values_of}
 use Rattle.session.specs.Session.{jacobian_room, schemes, Run, fresh, idle, clear, clear_answers, used_history, used_jacobian, step_clear, wanted, wanted_by}
 use Rattle.session.specs.Session.{size_ok, run_places, attempt_places, good1, history_ok, good2, good4, step_ok, good5, good3, session_tests, progress}
-use Rattle.session.specs.Calls.{Outcome, tell, refuse, refuse_lent, opened, nothing, begun, rested, answered, moved, shown, arrived, settled, attempt_of}
+use Rattle.session.specs.Calls.{Outcome, tell, refuse, refuse_lent, opened, nothing, begun, rested, answered, moved, shown, arrived, settled}
 use Rattle.session.specs.Calls.{vector_tests, attempt_tests, begin_tests, supply_tests, accept_tests, first_step_tests}
 use Rattle.session.specs.Calls.{open_call, begin_call, supply_call, accept_call, drop_call, first_step_call}
 use Rattle.session.specs.Refusals.{Kept, Unchanged}
@@ -75,7 +73,7 @@ sized true p e = (refl, e)
 sized false p e = absurd (false≢true e)
 
 -- both ways: from the rows, and to them
-pub passed_good : (wants : Wants) (s : Session) → tested (session_tests wants s) ≡ Ok tt → Good s
+pub passed_good : (wants : Option Phase) (s : Session) → tested (session_tests wants s) ≡ Ok tt → Good s
 passed_good wants s e =
     let one = sized (size_ok s.n) (run_places s && attempt_places s) (unfold condition session_tests good1 in session_row wants s e Why.Places) in
     let both = both_true (run_places s) (attempt_places s) one.1 in
@@ -148,21 +146,21 @@ good_closed {s} g wants =
 
 -- ---- the sessions that the calls make
 
-started : (w : Wish) (step : Float) → step_clear (attempt_of w) step ≡ true
-unfolding attempt_of step_clear
+started : (w : Wish) (step : Float) → step_clear (Some w) step ≡ true
+unfolding step_clear
 started Given step = refl
 started Difference step = refl
 
-step_good : (w : Wish) (step : Float) → step_ok step ≡ true → good5 (attempt_of w) step ≡ true
-unfolding attempt_of good5
+step_good : (w : Wish) (step : Float) → step_ok step ≡ true → good5 (Some w) step ≡ true
+unfolding good5
 step_good Given step e = e
 step_good Difference step e = e
 
-pub begun_good : (s : Session) (step : Float) (w : Wish) (j : List Float) (lent : ℕ) → Good s → tested (attempt_tests s.n step (attempt_of w) j lent) ≡ Ok tt
-    → Good (begun s step (attempt_of w) j)
+pub begun_good : (s : Session) (step : Float) (w : Wish) (j : List Float) (lent : ℕ) → Good s → tested (attempt_tests s.n step (Some w) j lent) ≡ Ok tt
+    → Good (begun s step (Some w) j)
 unfolding begun fresh good4
 begun_good s step w j lent g e =
-    let row = attempt_row s.n step (attempt_of w) j lent e in
+    let row = attempt_row s.n step (Some w) j lent e in
     record {
       size = g.size;
       absolute = g.absolute;
@@ -170,11 +168,11 @@ begun_good s step w j lent g e =
       derivative = g.derivative;
       previous = g.previous;
       step = started w step;
-      jacobian = (both_true (clear (used_jacobian (attempt_of w) s.n) j) (eqb lent s.n) (unfold condition attempt_tests in row Why.Places)).0;
+      jacobian = (both_true (clear (used_jacobian (Some w) s.n) j) (eqb lent s.n) (unfold condition attempt_tests in row Why.Places)).0;
       answers = clear-answers-zeros 0 s.n answer_room;
       scheme = g.scheme;
       history = g.history;
-      count = le-leb 0 (wanted s.scheme s.n (attempt_of w)) (omega arith);
+      count = le-leb 0 (wanted s.scheme s.n (Some w)) (omega arith);
       tolerances = g.tolerances;
       attempt = step_good w step (unfold condition attempt_tests in row Why.Step);
       time_finite = g.time_finite;
@@ -346,15 +344,15 @@ lent_good k s o r h = unless_either k (refuse_lent s o) r (λ r. number r.told.a
 
 open_good : (r : Run) → number (open_call r).answer ≡ 0 → Good (open_call r).session
 unfolding open_call
-open_good r = told_good (tested (session_tests Any (opened r))) nothing (tell Resting (opened r)) (λ e _. passed_good Any (opened r) e)
+open_good r = told_good (tested (session_tests None (opened r))) nothing (tell Resting (opened r)) (λ e _. passed_good None (opened r) e)
 
 begin_good : (s : Session) (step : Float) (w : Wish) (j o : List Float) → number (begin_call s step w j o).told.answer ≡ 0 → Good (begin_call s step w j o).told.session
 unfolding begin_call
 begin_good s step w j o =
-    let next = begun s step (attempt_of w) j in
-    lent_good (tested (begin_tests s step (attempt_of w) j (length o))) s o (shown s next o (progress next)) (λ e.
-    let p = begin_passes s step (attempt_of w) j (length o) e in
-    shown_good s next o (progress next) (begun_good s step w j (length o) (passed_good (Only Rest) s p.0) p.1))
+    let next = begun s step (Some w) j in
+    lent_good (tested (begin_tests s step (Some w) j (length o))) s o (shown s next o (progress next)) (λ e.
+    let p = begin_passes s step (Some w) j (length o) e in
+    shown_good s next o (progress next) (begun_good s step w j (length o) (passed_good (Some Rest) s p.0) p.1))
 
 supply_good : (s : Session) (x o : List Float) → length x ≡ places → number (supply_call s x o).told.answer ≡ 0 → Good (supply_call s x o).told.session
 unfolding supply_call
@@ -363,22 +361,22 @@ supply_good s x o sixteen =
     lent_good (tested (supply_tests s x (length o))) s o (shown s next o (progress next)) (λ e.
     let p = supply_passes s x (length o) e in
     shown_good s next o (progress next)
-    (answered_good s x (eqb (length o) s.n) sixteen (passed_good (Only Asking) s p.0) (wants_more s p.0) p.1))
+    (answered_good s x (eqb (length o) s.n) sixteen (passed_good (Some Asking) s p.0) (wants_more s p.0) p.1))
 
 accept_good : (s : Session) (f : List Float) → number (accept_call s f).answer ≡ 0 → Good (accept_call s f).session
 unfolding accept_call
 accept_good s f =
     told_good (tested (accept_tests s f)) s (settled s f (progress s)) (λ e.
     let p = accept_passes s f e in
-    settled_good s f (progress s) (passed_good (Only Waiting) s p.0) (ended_whole s (passed_sound (Only Waiting) s p.0).small) p.1)
+    settled_good s f (progress s) (passed_good (Some Waiting) s p.0) (ended_whole s (passed_sound (Some Waiting) s p.0).small) p.1)
 
 drop_good : (s : Session) → number (drop_call s).answer ≡ 0 → Good (drop_call s).session
 unfolding drop_call
-drop_good s = told_good (tested (session_tests Any s)) s (tell Resting (rested s)) (λ e _. rested_good s (passed_good Any s e))
+drop_good s = told_good (tested (session_tests None s)) s (tell Resting (rested s)) (λ e _. rested_good s (passed_good None s e))
 
 first_good : (s : Session) (largest : Float) → number (first_step_call s largest).answer ≡ 0 → Good (first_step_call s largest).session
 unfolding first_step_call
-first_good s largest = told_good (tested (first_step_tests s largest)) s _ (λ e _. passed_good Any s (first_step_passes s largest e))
+first_good s largest = told_good (tested (first_step_tests s largest)) s _ (λ e _. passed_good None s (first_step_passes s largest e))
 
 performed_good : (c : Call) (s : Session) → TypedCall c → number (perform c s).told.answer ≡ 0 → Good (perform c s).told.session
 unfolding perform TypedCall

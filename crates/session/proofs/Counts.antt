@@ -13,16 +13,15 @@ use Rattle.evaluation.specs.Evaluation.{all_finite}
 use Rattle.methods.specs.Step.{questions, Progress, refused, asking, ended}
 use Rattle.methods.proofs.Shape.{asks_early, ends_late}
 use Rattle.engine.specs.Engine.{perturbed, jacobian_entry, column_ok}
-use Rattle.std.specs.Prelude.{Ok, Result, ⊤}
+use Rattle.std.specs.Prelude.{Ok, Result, ⊤, Option, Some, None}
+use Rattle.session.specs.declared.Wish.TheVariants.{Given, Difference}
+use Rattle.session.specs.declared.Wish.{Wish}
 use Rattle.session.specs.declared.Refusal.{Refusal}
 use Rattle.session.specs.declared.Session.{Session}
-use Rattle.session.specs.declared.Attempt.{Attempt}
-use Rattle.session.specs.declared.Attempt.TheVariants.{None, Supplied, Differenced}
 use Rattle.session.specs.declared.Phase.TheVariants.{Rest, Asking, Waiting}
-use Rattle.session.specs.declared.Wants.TheVariants.{Only}
 use Rattle.session.specs.Tests.{tested, unless}
-use Rattle.session.specs.Session.{wanted, wanted_by, phase_with, phase_at, phase_of, phase_number, session_tests, Sound, point_of, stepped, question, differencing, progress_of, progress}
-use Rattle.session.specs.Calls.{Outcome, refuse_lent, begun, answered, ready_of, shown, attempt_of, begin_tests, supply_tests, begin_call, supply_call}
+use Rattle.session.specs.Session.{wanted, wanted_by, phase_at, phase_of, phase_number, session_tests, Sound, point_of, stepped, question, differencing, progress_of, progress}
+use Rattle.session.specs.Calls.{Outcome, refuse_lent, begun, answered, ready_of, shown, begin_tests, supply_tests, begin_call, supply_call}
 use Rattle.session.specs.Claims.{CountedBy, Counted, Counts}
 use Rattle.session.proofs.Tests.{unless_either}
 use Rattle.session.proofs.Laws.{passed_sound, in_phase, begin_passes, supply_passes, wants_more, begun_sound, answered_sound}
@@ -72,10 +71,10 @@ progress_counted : (s : Session) → s.n ≤ 16 → CountedAt (progress s) s.cou
 unfolding progress wanted
 progress_counted s small = go s.attempt
   where
-    go : (a : Attempt) → CountedAt (progress_of a s) s.count (wanted s.scheme s.n a)
+    go : (a : Option Wish) → CountedAt (progress_of a s) s.count (wanted s.scheme s.n a)
     go None = unfold progress_of CountedAt in tt
-    go Supplied = unfold progress_of wanted in step_counted s (take (s.n * s.n) s.jacobian) 0 _ small (omega arith) (omega arith)
-    go Differenced = unfold progress_of wanted in differencing_counted s small
+    go (Some Given) = unfold progress_of wanted in step_counted s (take (s.n * s.n) s.jacobian) 0 _ small (omega arith) (omega arith)
+    go (Some Difference) = unfold progress_of wanted in differencing_counted s small
 
 -- ---- what is told
 shown_counted : (old s : Session) (o : List Float) (p : Progress) → s.count ≤ wanted_by s → CountedAt p s.count (wanted_by s) → Counted (shown old s o p).told
@@ -90,19 +89,17 @@ sound_counted old s o r = shown_counted old s o (progress s) r.enough (progress_
 call_counted : (k : Result ⊤ Refusal) (s : Session) (o : List Float) (r : Outcome) → (k ≡ Ok tt → Counted r.told) → Counted (unless k (refuse_lent s o) r).told
 call_counted k s o r h = unless_either k (refuse_lent s o) r (λ r. Counted r.told) (λ j. unfold Counted CountedBy in tt) h
 
-waiting_all : (a : Attempt) (b : Bool) → 2 ≡ phase_number (phase_at a b) → b ≡ false
-unfolding phase_at phase_with phase_number
+waiting_all : (a : Option Wish) (b : Bool) → 2 ≡ phase_number (phase_at a b) → b ≡ false
+unfolding phase_at phase_number
 waiting_all None b e = absurd (omega (arith, e))
-waiting_all Supplied true e = absurd (omega (arith, e))
-waiting_all Supplied false e = refl
-waiting_all Differenced true e = absurd (omega (arith, e))
-waiting_all Differenced false e = refl
+waiting_all (Some wish) true e = absurd (omega (arith, e))
+waiting_all (Some wish) false e = refl
 
 -- a session that accept takes has all its answers
-pub never_asking : (s : Session) → tested (session_tests (Only Waiting) s) ≡ Ok tt → (x : List Float) (t : Float) → progress s ≡ asking x t → ⊥
+pub never_asking : (s : Session) → tested (session_tests (Some Waiting) s) ≡ Ok tt → (x : List Float) (t : Float) → progress s ≡ asking x t → ⊥
 never_asking s e x t p =
     let full = ltb-false s.count (wanted_by s) (waiting_all s.attempt _ (unfold phase_of phase_number in in_phase Waiting s e)) in
-    let less : s.count < wanted_by s = unfold CountedAt in subst (λ q. CountedAt q s.count (wanted_by s)) p (progress_counted s (passed_sound (Only Waiting) s e).small) in
+    let less : s.count < wanted_by s = unfold CountedAt in subst (λ q. CountedAt q s.count (wanted_by s)) p (progress_counted s (passed_sound (Some Waiting) s e).small) in
     omega (arith, full, less)
 
 -- ---- THE CLAIM
@@ -110,14 +107,14 @@ pub counts : Counts
 unfolding begin_call supply_call
 counts = record {
   begin = λ s step wish jacobian out.
-      let next = begun s step (attempt_of wish) jacobian in
-      call_counted (tested (begin_tests s step (attempt_of wish) jacobian _)) s out _ (λ e.
-      let p = begin_passes s step (attempt_of wish) jacobian _ e in
-      sound_counted s next out (begun_sound s step wish jacobian (passed_sound (Only Rest) s p.0)));
+      let next = begun s step (Some wish) jacobian in
+      call_counted (tested (begin_tests s step (Some wish) jacobian _)) s out _ (λ e.
+      let p = begin_passes s step (Some wish) jacobian _ e in
+      sound_counted s next out (begun_sound s step wish jacobian (passed_sound (Some Rest) s p.0)));
   supply = λ s answer out.
       let next = answered s answer in
       call_counted (tested (supply_tests s answer _)) s out _ (λ e.
       let p = supply_passes s answer _ e in
-      sound_counted s next out (answered_sound s answer (passed_sound (Only Asking) s p.0) (wants_more s p.0)));
+      sound_counted s next out (answered_sound s answer (passed_sound (Some Asking) s p.0) (wants_more s p.0)));
   accept = never_asking;
 }

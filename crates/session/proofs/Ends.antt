@@ -6,6 +6,7 @@ use mathlib.Core.List.{List}
 use lib.Dec.{ltb}
 use lib.Ieee.{Float}
 use lib.ListN.{take}
+use Rattle.std.specs.Prelude.{Option, Some, None}
 use Rattle.loops.specs.Loop.{every, mat}
 use Rattle.evaluation.specs.Evaluation.{all_finite}
 use Rattle.methods.specs.declared.Work.{Work}
@@ -13,9 +14,9 @@ use Rattle.methods.specs.Step.{Progress, refused, asking, ended}
 use Rattle.methods.specs.Shape.{Whole}
 use Rattle.methods.proofs.Shape.{ends_late}
 use Rattle.engine.specs.Engine.{perturbed, jacobian_entry, column_ok}
+use Rattle.session.specs.declared.Wish.TheVariants.{Given, Difference}
+use Rattle.session.specs.declared.Wish.{Wish}
 use Rattle.session.specs.declared.Session.{Session}
-use Rattle.session.specs.declared.Attempt.{Attempt}
-use Rattle.session.specs.declared.Attempt.TheVariants.{None, Supplied, Differenced}
 use Rattle.session.specs.Session.{point_of, stepped, question, differencing, progress_of, progress}
 
 -- candidate, error vector and nonlinear part
@@ -53,10 +54,10 @@ module _ (P : Progress → Type 0) (s : Session) (none : P refused) (asked : (x 
   unfolding progress
   progress_any = go s.attempt
     where
-      go : (a : Attempt) → P (progress_of a s)
+      go : (a : Option Wish) → P (progress_of a s)
       go None = unfold progress_of in none
-      go Supplied = unfold progress_of in made (take (s.n * s.n) s.jacobian) 0
-      go Differenced = unfold progress_of in differencing_any
+      go (Some Given) = unfold progress_of in made (take (s.n * s.n) s.jacobian) 0
+      go (Some Difference) = unfold progress_of in differencing_any
 
 -- ---- what it ends in
 WholeEnd : ℕ → Progress → Type 0

@@ -4,6 +4,7 @@ use mathlib.Core.Bool.{Bool, true, false, cond, false≢true}
 use mathlib.Core.List.{List}
 use lib.Ieee.{Float}
 use lib.ListN.{length}
+use Rattle.std.specs.Prelude.{Some}
 use Rattle.float.specs.Arith.{◌⊕◌, finite}
 use Rattle.methods.specs.Step.{Progress, refused, asking, ended}
 use Rattle.session.specs.declared.Refusal.TheVariants as Why
@@ -14,7 +15,7 @@ use Rattle.session.specs.declared.Wish.{Wish}
 use Rattle.session.specs.Tests.{tested}
 use Rattle.session.specs.Values.{values_of, figured, is_refused}
 use Rattle.session.specs.Session.{progress}
-use Rattle.session.specs.Calls.{tell, refuse, refuse_lent, shown, ready_of, settled, arrived, begin_tests, supply_tests, accept_tests, attempt_of, rested}
+use Rattle.session.specs.Calls.{tell, refuse, refuse_lent, shown, ready_of, settled, arrived, begin_tests, supply_tests, accept_tests, rested}
 use Rattle.session.specs.Calls.{begin_call, supply_call, accept_call, drop_call}
 use Rattle.session.proofs.Tests.{unless_either}
 
@@ -55,7 +56,7 @@ module _ (s : Session) where
   pub begin_same : (step : Float) (w : Wish) (j out : List Float) → Same (begin_call s step w j out).told
   unfolding begin_call
   begin_same step w j out =
-      unless_either (tested (begin_tests s step (attempt_of w) j (length out))) (refuse_lent s out) _ (λ o. Same o.told) (λ j e. refl) (λ _. shown_same _ out _)
+      unless_either (tested (begin_tests s step (Some w) j (length out))) (refuse_lent s out) _ (λ o. Same o.told) (λ j e. refl) (λ _. shown_same _ out _)
 
   pub supply_same : (x out : List Float) → Same (supply_call s x out).told
   unfolding supply_call

@@ -1,11 +1,12 @@
 -- What follows from tests that passed, and what is told of an attempt. Assumes nothing.
 use Rattle.loops.proofs.Bools.{both_true}
 use Rattle.methods.specs.Step.{Progress, progress as reached}
-use Rattle.std.specs.Prelude.{Result, Ok, Err, ⊤}
+use Rattle.std.specs.Prelude.{Result, Ok, Err, ⊤, Option, Some, None}
+use Rattle.session.specs.declared.Wish.TheVariants.{Given, Difference}
 use Rattle.session.specs.declared.Refusal.{Refusal}
 use Rattle.session.specs.declared.Refusal.TheVariants as Why
 use Rattle.session.specs.Tests.{Tests, tested, condition, unless}
-use Rattle.session.specs.Session.{schemes, largest, Run, joined, trial_of, fresh, wanted, wanted_by, phase_with, phase_at, phase_of, phase_number, admits, size_ok, run_places, attempt_places}
+use Rattle.session.specs.Session.{schemes, largest, fresh, wanted, wanted_by, phase_at, phase_of, phase_number, admits, size_ok, run_places, attempt_places}
 use Rattle.float.specs.Arith.{finite}
 use Rattle.evaluation.specs.Evaluation.{all_finite}
 use Rattle.session.specs.Session.{good1, history_ok, good2, good3, good7, session_tests, used_jacobian, Sound, clear}
@@ -20,7 +21,7 @@ use Rattle.methods.specs.Tally.{Tried}
 use Rattle.methods.specs.Parts.{taken, made}
 use Rattle.methods.proofs.Made.{taken_is, untaken}
 use Rattle.session.specs.Bare.{bare, refuse_bare, exponential_tests, phi_tests, norm_tests}
-use Rattle.session.specs.Calls.{outcome, tell, refuse, refuse_lent, begun, answered, attempt_of, vector_tests, attempt_tests, begin_tests, supply_tests}
+use Rattle.session.specs.Calls.{outcome, tell, refuse, refuse_lent, begun, answered, vector_tests, attempt_tests, begin_tests, supply_tests}
 use Rattle.session.specs.Calls.{accept_tests, first_step_tests, shown, arrived, settled, ready_of}
 use Prim.Native.Nat.{ℕ, ◌+◌, ◌*◌, ◌≤◌, ◌<◌}
 use mathlib.Core.Path.{◌≡◌, refl, sym, ◌∙◌}
@@ -41,20 +42,16 @@ use Rattle.session.specs.declared.Session.{Session}
 use Rattle.session.specs.declared.Told.{Told}
 use Rattle.session.specs.declared.Answer.{Answer}
 use Rattle.session.specs.declared.Answer.TheVariants.{Ask, Resting, Filled}
-use Rattle.session.specs.declared.Attempt.{Attempt}
-use Rattle.session.specs.declared.Attempt.TheVariants.{None, Supplied, Differenced}
 use Rattle.session.specs.declared.Phase.{Phase}
 use Rattle.session.specs.declared.Phase.TheVariants.{Rest, Asking, Waiting}
-use Rattle.session.specs.declared.Wants.{Wants}
-use Rattle.session.specs.declared.Wants.TheVariants.{Any, Only}
 use Rattle.session.specs.declared.Wish.{Wish}
 use Rattle.session.proofs.Tests.{passes, both_pass, tested-append}
 
-pub wanted-small : (k n : ℕ) (a : Attempt) → n ≤ 16 → wanted k n a ≤ answers_kept
+pub wanted-small : (k n : ℕ) (a : Option Wish) → n ≤ 16 → wanted k n a ≤ answers_kept
 unfolding wanted
 wanted-small k n None h = omega arith
-wanted-small k n Supplied h = omega (arith, questions-small k)
-wanted-small k n Differenced h = omega (arith, questions-small k)
+wanted-small k n (Some Given) h = omega (arith, questions-small k)
+wanted-small k n (Some Difference) h = omega (arith, questions-small k)
 
 pub size_both : (n : ℕ) → (leb 1 n && leb n 16) ≡ true → (1 ≤ n) × (n ≤ 16)
 size_both n e = let p : (leb 1 n ≡ true) × (leb n 16 ≡ true) = both_true (leb 1 n) (leb n 16) e in (leb-true 1 n p.0, leb-true n 16 p.1)
@@ -86,74 +83,72 @@ good3_state s e =
 -- ---- sessions that are not refused
 
 -- the row of a refusal
-pub session_row : (wants : Wants) (s : Session) → tested (session_tests wants s) ≡ Ok tt → (why : Refusal) → condition why (session_tests wants s) ≡ true
+pub session_row : (wants : Option Phase) (s : Session) → tested (session_tests wants s) ≡ Ok tt → (why : Refusal) → condition why (session_tests wants s) ≡ true
 session_row wants s e = passes (session_tests wants s) e
 
-pub passed_sound : (wants : Wants) (s : Session) → tested (session_tests wants s) ≡ Ok tt → Sound s
+pub passed_sound : (wants : Option Phase) (s : Session) → tested (session_tests wants s) ≡ Ok tt → Sound s
 passed_sound wants s e =
     let n = good1_size s (unfold condition session_tests in session_row wants s e Why.Places) in
     let m = good2_parts s (unfold condition session_tests in session_row wants s e Why.Scheme) in
     record { some = n.0; small = n.1; scheme = m.0; enough = m.1; calm = good3_state s (unfold condition session_tests in session_row wants s e Why.NotFinite) }
 
-pub in_phase : (phase : Phase) (s : Session) → tested (session_tests (Only phase) s) ≡ Ok tt → phase_number phase ≡ phase_number (phase_of s)
+pub in_phase : (phase : Phase) (s : Session) → tested (session_tests (Some phase) s) ≡ Ok tt → phase_number phase ≡ phase_number (phase_of s)
 in_phase phase s e =
-    eqb-true (phase_number phase) (phase_number (phase_of s)) (unfold condition session_tests good7 admits in session_row (Only phase) s e Why.Phase)
+    eqb-true (phase_number phase) (phase_number (phase_of s)) (unfold condition session_tests good7 admits in session_row (Some phase) s e Why.Phase)
 
-asking_more : (a : Attempt) (b : Bool) → 1 ≡ phase_number (phase_at a b) → b ≡ true
-unfolding phase_at phase_with phase_number
+asking_more : (a : Option Wish) (b : Bool) → 1 ≡ phase_number (phase_at a b) → b ≡ true
+unfolding phase_at phase_number
 asking_more None b e = absurd (omega (arith, e))
-asking_more Supplied true e = refl
-asking_more Supplied false e = absurd (omega (arith, e))
-asking_more Differenced true e = refl
-asking_more Differenced false e = absurd (omega (arith, e))
+asking_more (Some wish) true e = refl
+asking_more (Some wish) false e = absurd (omega (arith, e))
 
 -- a session that asks wants an answer more
-pub wants_more : (s : Session) → tested (session_tests (Only Asking) s) ≡ Ok tt → s.count < wanted_by s
+pub wants_more : (s : Session) → tested (session_tests (Some Asking) s) ≡ Ok tt → s.count < wanted_by s
 wants_more s e = ltb-true s.count (wanted_by s) (asking_more s.attempt _ (unfold phase_of phase_number in in_phase Asking s e))
 
-pub few_answers : (s : Session) → tested (session_tests (Only Asking) s) ≡ Ok tt → s.count < answers_kept
-few_answers s e = omega (arith, wants_more s e, wanted-small s.scheme s.n s.attempt (passed_sound (Only Asking) s e).small)
+pub few_answers : (s : Session) → tested (session_tests (Some Asking) s) ≡ Ok tt → s.count < answers_kept
+few_answers s e = omega (arith, wants_more s e, wanted-small s.scheme s.n s.attempt (passed_sound (Some Asking) s e).small)
 
 -- what is handed in is tested where the session passes
-pub session_then : (wants : Wants) (s : Session) (handed : Tests) {k m : Result ⊤ Refusal} → k ≡ tested (session_tests wants s) → k ≡ Ok tt → m ≡ tested handed
+pub session_then : (wants : Option Phase) (s : Session) (handed : Tests) {k m : Result ⊤ Refusal} → k ≡ tested (session_tests wants s) → k ≡ Ok tt → m ≡ tested handed
     → m ≡ tested (session_tests wants s ++ handed)
 unfolding unless
 session_then wants s handed e z f = rw (tested-append (session_tests wants s) handed, ← e, z) f
 
-pub session_fails : (wants : Wants) (s : Session) (handed : Tests) {k : Result ⊤ Refusal} {why : Refusal} → k ≡ tested (session_tests wants s) → k ≡ Err why
+pub session_fails : (wants : Option Phase) (s : Session) (handed : Tests) {k : Result ⊤ Refusal} {why : Refusal} → k ≡ tested (session_tests wants s) → k ≡ Err why
     → Err why ≡ tested (session_tests wants s ++ handed)
 unfolding unless
 session_fails wants s handed e z = rw (tested-append (session_tests wants s) handed, ← e, z)
 
 -- ---- calls that are not refused
 
-pub begin_passes : (s : Session) (h : Float) (a : Attempt) (j : List Float) (lent : ℕ) → tested (begin_tests s h a j lent) ≡ Ok tt
-    → (tested (session_tests (Only Rest) s) ≡ Ok tt) × (tested (attempt_tests s.n h a j lent) ≡ Ok tt)
+pub begin_passes : (s : Session) (h : Float) (a : Option Wish) (j : List Float) (lent : ℕ) → tested (begin_tests s h a j lent) ≡ Ok tt
+    → (tested (session_tests (Some Rest) s) ≡ Ok tt) × (tested (attempt_tests s.n h a j lent) ≡ Ok tt)
 unfolding begin_tests
-begin_passes s h a j lent e = both_pass (session_tests (Only Rest) s) _ e
+begin_passes s h a j lent e = both_pass (session_tests (Some Rest) s) _ e
 
 pub supply_passes : (s : Session) (x : List Float) (lent : ℕ) → tested (supply_tests s x lent) ≡ Ok tt
-    → (tested (session_tests (Only Asking) s) ≡ Ok tt) × (tested (vector_tests s.n x (eqb lent s.n)) ≡ Ok tt)
+    → (tested (session_tests (Some Asking) s) ≡ Ok tt) × (tested (vector_tests s.n x (eqb lent s.n)) ≡ Ok tt)
 unfolding supply_tests
-supply_passes s x lent e = both_pass (session_tests (Only Asking) s) _ e
+supply_passes s x lent e = both_pass (session_tests (Some Asking) s) _ e
 
 pub accept_passes : (s : Session) (x : List Float) → tested (accept_tests s x) ≡ Ok tt
-    → (tested (session_tests (Only Waiting) s) ≡ Ok tt) × (tested (vector_tests s.n x true) ≡ Ok tt)
+    → (tested (session_tests (Some Waiting) s) ≡ Ok tt) × (tested (vector_tests s.n x true) ≡ Ok tt)
 unfolding accept_tests
-accept_passes s x e = both_pass (session_tests (Only Waiting) s) _ e
+accept_passes s x e = both_pass (session_tests (Some Waiting) s) _ e
 
-pub first_step_passes : (s : Session) (largest : Float) → tested (first_step_tests s largest) ≡ Ok tt → tested (session_tests Any s) ≡ Ok tt
+pub first_step_passes : (s : Session) (largest : Float) → tested (first_step_tests s largest) ≡ Ok tt → tested (session_tests None s) ≡ Ok tt
 unfolding first_step_tests
-first_step_passes s largest e = (both_pass (session_tests Any s) _ e).0
+first_step_passes s largest e = (both_pass (session_tests None s) _ e).0
 
-pub attempt_row : (n : ℕ) (h : Float) (a : Attempt) (j : List Float) (lent : ℕ) → tested (attempt_tests n h a j lent) ≡ Ok tt
+pub attempt_row : (n : ℕ) (h : Float) (a : Option Wish) (j : List Float) (lent : ℕ) → tested (attempt_tests n h a j lent) ≡ Ok tt
     → (why : Refusal) → condition why (attempt_tests n h a j lent) ≡ true
 attempt_row n h a j lent e = passes (attempt_tests n h a j lent) e
 
 pub vector_row : (n : ℕ) (x : List Float) (lent : Bool) → tested (vector_tests n x lent) ≡ Ok tt → (why : Refusal) → condition why (vector_tests n x lent) ≡ true
 vector_row n x lent e = passes (vector_tests n x lent) e
 
-pub begin_length : (n : ℕ) (h : Float) (a : Attempt) (j : List Float) (lent : ℕ) → tested (attempt_tests n h a j lent) ≡ Ok tt → lent ≡ n
+pub begin_length : (n : ℕ) (h : Float) (a : Option Wish) (j : List Float) (lent : ℕ) → tested (attempt_tests n h a j lent) ≡ Ok tt → lent ≡ n
 begin_length n h a j lent e =
     eqb-true lent n (both_true (clear (used_jacobian a n) j) (eqb lent n) (unfold condition attempt_tests in attempt_row n h a j lent e Why.Places)).1
 
@@ -161,7 +156,7 @@ pub vector_length : (n : ℕ) (x : List Float) (lent : ℕ) → tested (vector_t
 vector_length n x lent e =
     eqb-true lent n (both_true (clear n x) (eqb lent n) (unfold condition vector_tests in vector_row n x (eqb lent n) e Why.Places)).1
 
-pub begun_sound : (s : Session) (h : Float) (w : Wish) (j : List Float) → Sound s → Sound (begun s h (attempt_of w) j)
+pub begun_sound : (s : Session) (h : Float) (w : Wish) (j : List Float) → Sound s → Sound (begun s h (Some w) j)
 unfolding begun fresh
 begun_sound s h w j r = record { some = r.some; small = r.small; scheme = r.scheme; enough = omega arith; calm = r.calm }
 
@@ -196,14 +191,6 @@ module _ (s : Session) (f : List Float) (p : Progress) (r : Told) where
   pub settle_done : (x e g : List Float) (w : Work) → reached (Some (Done x e g w)) ≡ p → r ≡ arrived s x f g → r ≡ settled s f p
   unfolding settled reached
   settle_done x e g w v h = rw (← v) h
-
-pub supplied_few : (s : Session) → Sound s → s.attempt ≡ Supplied → s.count ≤ 4
-unfolding wanted
-supplied_few s r e = let h : s.count ≤ wanted s.scheme s.n Supplied = rw e at r.enough in omega (arith, questions-small s.scheme)
-
-pub differenced_few : (s : Session) → Sound s → s.attempt ≡ Differenced → s.count ≤ s.n + 4
-unfolding wanted
-differenced_few s r e = let h : s.count ≤ wanted s.scheme s.n Differenced = rw e at r.enough in omega (arith, questions-small s.scheme)
 
 pub area : {n : ℕ} → n ≤ 16 → n * n ≤ 256
 area h = mul-le-mul h h

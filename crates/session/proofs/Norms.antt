@@ -18,18 +18,17 @@ use Rattle.methods.specs.declared.Work.{Work}
 use Rattle.methods.specs.Step.{Progress, refused, asking, ended}
 use Rattle.engine.specs.Engine.{error_norm}
 use Rattle.engine.proofs.Norm.{norm-number}
-use Rattle.std.specs.Prelude.{Ok, Result, Err, ⊤}
+use Rattle.std.specs.Prelude.{Ok, Result, Err, ⊤, Option, Some}
+use Rattle.session.specs.declared.Phase.{Phase}
 use Rattle.session.specs.declared.Refusal.{Refusal}
 use Rattle.session.specs.declared.Refusal.TheVariants as Why
 use Rattle.session.specs.declared.Session.{Session}
 use Rattle.session.specs.declared.Answer.{Answer}
 use Rattle.session.specs.declared.Answer.TheVariants.{Ask, Ready, Resting, FirstStep, Filled, Norm}
 use Rattle.session.specs.declared.Phase.TheVariants.{Rest, Asking}
-use Rattle.session.specs.declared.Wants.{Wants}
-use Rattle.session.specs.declared.Wants.TheVariants.{Only}
 use Rattle.session.specs.Tests.{tested, condition, unless}
 use Rattle.session.specs.Session.{Run, run_of, positive, tolerances_ok, good4, session_tests, progress}
-use Rattle.session.specs.Calls.{Outcome, refuse_lent, begun, answered, attempt_of, has_error, ready_of, shown, begin_tests, supply_tests, begin_call, supply_call}
+use Rattle.session.specs.Calls.{Outcome, refuse_lent, begun, answered, has_error, ready_of, shown, begin_tests, supply_tests, begin_call, supply_call}
 use Rattle.session.specs.Bare.{norm_tests, norm_call}
 use Rattle.session.specs.Claims.{Typed, Norms}
 use Rattle.session.proofs.Tests.{passes, unless_either}
@@ -73,7 +72,7 @@ record Measured (s : Session) : Type 0 where
   double : (i : ℕ) → T (fits binary64 (s.absolute ! i))
   state : Numbers s.state
 
-measured : (wants : Wants) (s : Session) → Typed s → tested (session_tests wants s) ≡ Ok tt → Measured s
+measured : (wants : Option Phase) (s : Session) → Typed s → tested (session_tests wants s) ≡ Ok tt → Measured s
 measured wants s t e =
     let g = passed_good wants s e in
     let n = passed_sound wants s e in
@@ -158,13 +157,13 @@ pub norms : Norms
 unfolding begin_call supply_call norm_call
 norms = record {
   begin = λ s step wish jacobian out t.
-      let next = begun s step (attempt_of wish) jacobian in
-      ready_number _ (call_number (tested (begin_tests s step (attempt_of wish) jacobian (length out))) s out (shown s next out (progress next)) (λ e.
-      attempt_number_lem s next out (run_measured s next (unfold begun in refl) (measured (Only Rest) s t (begin_passes s step (attempt_of wish) jacobian (length out) e).0))));
+      let next = begun s step (Some wish) jacobian in
+      ready_number _ (call_number (tested (begin_tests s step (Some wish) jacobian (length out))) s out (shown s next out (progress next)) (λ e.
+      attempt_number_lem s next out (run_measured s next (unfold begun in refl) (measured (Some Rest) s t (begin_passes s step (Some wish) jacobian (length out) e).0))));
   supply = λ s answer out t.
       let next = answered s answer in
       ready_number _ (call_number (tested (supply_tests s answer (length out))) s out (shown s next out (progress next)) (λ e.
-      attempt_number_lem s next out (run_measured s next (unfold answered in refl) (measured (Only Asking) s t (supply_passes s answer (length out) e).0))));
+      attempt_number_lem s next out (run_measured s next (unfold answered in refl) (measured (Some Asking) s t (supply_passes s answer (length out) e).0))));
   bare = λ n relative absolute error state candidate f le ls lc.
       told_number _
       (unless_either (tested (norm_tests n relative absolute error state candidate)) Err (Ok (Norm (error_norm n relative absolute state candidate error))) Number

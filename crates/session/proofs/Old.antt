@@ -20,14 +20,13 @@ use Rattle.matrix.specs.Vector.{vec}
 use Rattle.matrix.proofs.Vectors.{length-vec, vec_at}
 use Rattle.engine.specs.Claims.{Equal}
 use Rattle.engine.proofs.Equal.{equal_tolerances}
-use Rattle.std.specs.Prelude.{Ok, Result, Err, ⊤}
+use Rattle.std.specs.Prelude.{Result, Err, ⊤, Option, Some, None}
+use Rattle.session.specs.declared.Phase.{Phase}
 use Rattle.session.specs.declared.Refusal.{Refusal}
 use Rattle.session.specs.declared.Head.{Head}
 use Rattle.session.specs.declared.OldSession.{OldSession}
 use Rattle.session.specs.declared.Session.{Session}
 use Rattle.session.specs.declared.Phase.TheVariants.{Rest, Asking, Waiting}
-use Rattle.session.specs.declared.Wants.{Wants}
-use Rattle.session.specs.declared.Wants.TheVariants.{Any, Only}
 use Rattle.session.specs.Tests.{Tests, refusal_number, tested, unless}
 use Rattle.session.specs.Values.{values_of, number}
 use Rattle.session.specs.Session.{jacobian_room, clear, size_ok, run_places, attempt_places, good1, good2, phase_of, good7, positive, tolerances_ok, good4, good3, session_tests}
@@ -88,7 +87,7 @@ tolerances_copied n relative one some small =
 
 -- ---- the number of an old session
 
-module _ (wants : Wants) (o : OldSession) where
+module _ (wants : Option Phase) (o : OldSession) where
   old_places : good1 (brought_over o) ≡ cond (size_ok o.n) (old_run_places o && attempt_places (tolerating o [])) false
   unfolding good1 run_places old_run_places attempt_places brought_over
   old_places = rw (clear-copied o.n o.absolute)
@@ -121,17 +120,17 @@ refused_number : {A : Type 0} (of : A → ℕ) {k : Result ⊤ Refusal} {why : R
 unfolding unless
 refused_number of refuse next reads e = rw e (reads _)
 
-tested-number : {A : Type 0} (of : A → ℕ) (wants : Wants) (s : Session) (handed : Tests) (refuse : Refusal → A) (next : A) → ((j : Refusal) → of (refuse j) ≡ refusal_number j)
+tested-number : {A : Type 0} (of : A → ℕ) (wants : Option Phase) (s : Session) (handed : Tests) (refuse : Refusal → A) (next : A) → ((j : Refusal) → of (refuse j) ≡ refusal_number j)
     → {why : Refusal} → tested (session_tests wants s) ≡ Err why → of (unless (tested (session_tests wants s ++ handed)) refuse next) ≡ refusal_number why
 tested-number of wants s handed refuse next reads h = refused_number of refuse next reads (sym (session_fails wants s handed refl h))
 
 refused_call : (c : Call) (s : Session) (why : Refusal) → tested (session_tests (wants_of c) s) ≡ Err why → number (perform c s).told.answer ≡ refusal_number why
 unfolding wants_of perform number values_of begin_call begin_tests supply_call supply_tests accept_call accept_tests drop_call first_step_call first_step_tests
-refused_call (begin step wish jacobian out) s why h = tested-number (λ r. number r.told.answer) (Only Rest) s _ (refuse_lent s out) _ (λ j. refl) h
-refused_call (supply answer out) s why h = tested-number (λ r. number r.told.answer) (Only Asking) s _ (refuse_lent s out) _ (λ j. refl) h
-refused_call (accept derivative) s why h = tested-number (λ r. number r.answer) (Only Waiting) s _ (refuse s) _ (λ j. refl) h
+refused_call (begin step wish jacobian out) s why h = tested-number (λ r. number r.told.answer) (Some Rest) s _ (refuse_lent s out) _ (λ j. refl) h
+refused_call (supply answer out) s why h = tested-number (λ r. number r.told.answer) (Some Asking) s _ (refuse_lent s out) _ (λ j. refl) h
+refused_call (accept derivative) s why h = tested-number (λ r. number r.answer) (Some Waiting) s _ (refuse s) _ (λ j. refl) h
 refused_call dropping s why h = refused_number (λ r. number r.answer) (refuse s) _ (λ j. refl) h
-refused_call (first_step largest) s why h = tested-number (λ r. number r.answer) Any s _ (refuse s) _ (λ j. refl) h
+refused_call (first_step largest) s why h = tested-number (λ r. number r.answer) None s _ (refuse s) _ (λ j. refl) h
 
 -- ---- the bare error norm
 

@@ -1,5 +1,4 @@
 -- The tests of a run that is to be opened: its attempt holds nothing. Assumes nothing.
-use Prim.Native.Nat.{ℕ}
 use mathlib.Core.Path.{◌≡◌, refl, sym, ◌∙◌}
 use mathlib.Core.Bool.{Bool, true, false, cond, not, ◌&&◌, and-true}
 use mathlib.Core.List.{List, [], ◌∷◌}
@@ -7,16 +6,14 @@ use lib.Ieee.{Float, of_bits}
 use Rattle.float.specs.Arith.{finite, plus_zero}
 use Rattle.evaluation.specs.Evaluation.{all_finite}
 use Rattle.evaluation.specs.Sizes.{answer_room}
-use Rattle.std.specs.Prelude.{Err, Result, ⊤}
+use Rattle.std.specs.Prelude.{Err, Result, ⊤, None}
 use Rattle.session.specs.declared.Refusal.{Refusal}
 use Rattle.session.specs.declared.Refusal.TheVariants as Why
-use Rattle.session.specs.declared.Wants.TheVariants.{Any}
 use Rattle.session.specs.Tests.{tested}
 use Rattle.session.specs.Session.{Run, jacobian_room, fresh, idle, clear, used_history, used_jacobian, step_clear, size_ok, run_places, attempt_places}
 use Rattle.session.specs.Session.{good1, good2, good3, good4, good5, good7, admits, tolerances_ok, session_tests}
 use Rattle.loops.proofs.Bools.{both_true}
 use Rattle.session.specs.declared.Head.{Head}
-use Rattle.session.specs.declared.Attempt.TheVariants.{None}
 use Rattle.session.specs.Figures.{session_of}
 use Rattle.session.specs.Calls.{opened}
 use Rattle.session.proofs.Clear.{clear-zeros, clear-answers-zeros, finite-zeros}
@@ -60,7 +57,7 @@ module _ (r : Run) where
   no_step = refl
 
   -- the tests that are left
-  pub opening : tested (session_tests Any (opened r))
+  pub opening : tested (session_tests None (opened r))
       ≡ tested ((size_ok r.n, Why.Places) ∷ (open_places, Why.Places) ∷ (good2 (opened r), Why.Scheme) ∷ (tolerances_ok r.n r.relative r.absolute, Why.Tolerance)
       ∷ (finite r.time && all_finite r.state && all_finite r.derivative && all_finite r.previous, Why.NotFinite) ∷ [])
   unfolding session_tests good7 admits tested

@@ -16,20 +16,19 @@ use Rattle.methods.specs.Shape.{Doubles}
 use Rattle.methods.specs.Step.{exponentials, Progress, refused, asking, ended}
 use Rattle.methods.proofs.Took.{phi_reach}
 use Rattle.methods.proofs.Shape.{at_most_34, step_work}
-use Rattle.std.specs.Prelude.{Result, Ok, Err, ⊤, IfSome, is_some}
+use Rattle.std.specs.Prelude.{Result, Ok, Err, ⊤, Some, IfSome, is_some}
 use Rattle.session.specs.declared.Refusal.{Refusal}
 use Rattle.session.specs.declared.Refusal.TheVariants as Why
 use Rattle.session.specs.declared.Session.{Session}
 use Rattle.session.specs.declared.Answer.{Answer}
 use Rattle.session.specs.declared.Answer.TheVariants.{Ask, Ready, Resting, FirstStep, Filled, Norm}
 use Rattle.session.specs.declared.Phase.TheVariants.{Rest, Asking}
-use Rattle.session.specs.declared.Wants.TheVariants.{Only}
 use Rattle.session.specs.Tests.{tested, unless}
 use Rattle.session.specs.Values.{values_of, figured}
 use Rattle.session.specs.Session.{Run, run_of, is_held, previous_of, point_of, stepped, progress}
 use Rattle.session.specs.declared.History.{History}
 use Rattle.session.specs.declared.History.TheVariants.{Missing, Held}
-use Rattle.session.specs.Calls.{Outcome, refuse_lent, begun, answered, attempt_of, ready_of, shown, begin_tests, supply_tests, begin_call, supply_call}
+use Rattle.session.specs.Calls.{Outcome, refuse_lent, begun, answered, ready_of, shown, begin_tests, supply_tests, begin_call, supply_call}
 use Rattle.session.specs.Bare.{bare, refuse_bare, exponential_tests, exponential_call, phi_tests, phi_call}
 use Rattle.session.specs.Claims.{Typed, exponentials_of, Products}
 use Rattle.session.proofs.Tests.{unless_either}
@@ -128,15 +127,15 @@ pub products : Products
 unfolding begin_call supply_call exponential_call phi_call
 products = record {
   begin = λ s step wish jacobian out t.
-      let next = begun s step (attempt_of wish) jacobian in
-      ready_few (47 * exponentials_of s) _ (call_few (47 * exponentials_of s) (tested (begin_tests s step (attempt_of wish) jacobian (length out))) s out (shown s next out (progress next)) (λ e.
-      let p = begin_passes s step (attempt_of wish) jacobian (length out) e in
-      run_few s next out (unfold begun in refl) (starts s t (passed_sound (Only Rest) s p.0).small)));
+      let next = begun s step (Some wish) jacobian in
+      ready_few (47 * exponentials_of s) _ (call_few (47 * exponentials_of s) (tested (begin_tests s step (Some wish) jacobian (length out))) s out (shown s next out (progress next)) (λ e.
+      let p = begin_passes s step (Some wish) jacobian (length out) e in
+      run_few s next out (unfold begun in refl) (starts s t (passed_sound (Some Rest) s p.0).small)));
   supply = λ s answer out t.
       let next = answered s answer in
       ready_few (47 * exponentials_of s) _ (call_few (47 * exponentials_of s) (tested (supply_tests s answer (length out))) s out (shown s next out (progress next)) (λ e.
       let p = supply_passes s answer (length out) e in
-      run_few s next out (unfold answered in refl) (starts s t (passed_sound (Only Asking) s p.0).small)));
+      run_few s next out (unfold answered in refl) (starts s t (passed_sound (Some Asking) s p.0).small)));
   most = λ s. omega (arith, at_most_34 s.scheme (is_held s.history));
   asking = λ time. unfold values_of figured in refl;
   exponential = λ size m out d.

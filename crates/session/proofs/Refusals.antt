@@ -12,18 +12,17 @@ use Rattle.matrix.specs.Matrix.{admitted, exponential}
 use Rattle.matrix.specs.Vector.{vec}
 use Rattle.methods.specs.Phi.{phi_action}
 use Rattle.methods.specs.Step.{Progress, refused, asking, ended}
-use Rattle.std.specs.Prelude.{Result, Ok, Err, ⊤}
+use Rattle.std.specs.Prelude.{Result, Ok, Err, ⊤, Some, None}
 use Rattle.session.specs.declared.Refusal.{Refusal}
 use Rattle.session.specs.declared.Refusal.TheVariants as Why
 use Rattle.session.specs.declared.Session.{Session}
 use Rattle.session.specs.declared.Told.{Told}
 use Rattle.session.specs.declared.Answer.TheVariants.{Resting, Filled}
-use Rattle.session.specs.declared.Wants.TheVariants.{Any}
 use Rattle.session.specs.Tests.{Tests, refusal_number, tested, unless}
 use Rattle.session.specs.Values.{figured, values_of, number}
 use Rattle.session.specs.Session.{session_tests, progress}
-use Rattle.session.specs.Calls.{Outcome, tell, refuse, refuse_lent, opened, nothing, begun, answered, moved, ready_of, rested, shown, arrived, settled, attempt_of}
-use Rattle.session.specs.Calls.{vector_tests, attempt_tests, largest_tests, begin_tests, supply_tests, accept_tests, first_step_tests}
+use Rattle.session.specs.Calls.{Outcome, tell, refuse, refuse_lent, opened, nothing, begun, answered, moved, ready_of, rested, shown, arrived, settled}
+use Rattle.session.specs.Calls.{begin_tests, supply_tests, accept_tests, first_step_tests}
 use Rattle.session.specs.Calls.{open_call, begin_call, supply_call, accept_call, drop_call, first_step_call}
 use Rattle.session.specs.Bare.{Bare, bare, refuse_bare, exponential_tests, phi_tests, norm_tests, exponential_call, phi_call, norm_call}
 use Rattle.session.specs.Refusals.{First, works, Numbers, Kept, Unchanged, Unwritten, Refusals}
@@ -92,10 +91,10 @@ pub numbers : Numbers
 unfolding open_call begin_call supply_call accept_call drop_call first_step_call exponential_call phi_call norm_call told_number outcome-number bare-number
 numbers = record {
   opens = λ r.
-      only_tests told_number (session_tests Any (opened r)) (refuse nothing) _ refused_number (resting-number (opened r));
+      only_tests told_number (session_tests None (opened r)) (refuse nothing) _ refused_number (resting-number (opened r));
   begin = λ s step wish jacobian out.
-      let next = begun s step (attempt_of wish) jacobian in
-      call_first outcome-number (begin_tests s step (attempt_of wish) jacobian (length out)) _ (refuse_lent s out) _
+      let next = begun s step (Some wish) jacobian in
+      call_first outcome-number (begin_tests s step (Some wish) jacobian (length out)) _ (refuse_lent s out) _
       refused_number (λ _. shown-first s next out (progress next));
   supply = λ s answer out.
       let next = answered s answer in
@@ -104,7 +103,7 @@ numbers = record {
   accept = λ s derivative.
       call_first told_number (accept_tests s derivative) _ (refuse s) _ refused_number (λ e.
       settled-first s derivative (progress s) (never_asking s (accept_passes s derivative e).0));
-  drop = λ s. only_tests told_number (session_tests Any s) (refuse s) _ refused_number (resting-number (rested s));
+  drop = λ s. only_tests told_number (session_tests None s) (refuse s) _ refused_number (resting-number (rested s));
   first_step = λ s largest.
       only_tests told_number (first_step_tests s largest) (refuse s) _ refused_number (unfold number values_of figured in refl);
   exponential = λ size m out.

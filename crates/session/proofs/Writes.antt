@@ -18,16 +18,15 @@ use Rattle.loops.specs.Loop.{stores, ◌!◌}
 use Rattle.float.specs.Arith.{◌⊕◌, zero+, plus_zero, finite}
 use Rattle.evaluation.specs.Sizes.{places, answers_kept, answer_room}
 use Rattle.methods.specs.Sizes.{etd2_number}
-use Rattle.std.specs.Prelude.{Ok}
+use Rattle.std.specs.Prelude.{Ok, Option, Some, None}
+use Rattle.session.specs.declared.Phase.{Phase}
+use Rattle.session.specs.declared.Wish.TheVariants.{Given, Difference}
+use Rattle.session.specs.declared.Wish.{Wish}
 use Rattle.session.specs.declared.Refusal.TheVariants as Why
 use Rattle.session.specs.declared.Session.{Session}
 use Rattle.session.specs.declared.Head.{Head}
 use Rattle.session.specs.declared.History.TheVariants.{Held}
-use Rattle.session.specs.declared.Attempt.{Attempt}
-use Rattle.session.specs.declared.Attempt.TheVariants.{None, Supplied, Differenced}
 use Rattle.session.specs.declared.Phase.TheVariants.{Rest}
-use Rattle.session.specs.declared.Wants.{Wants}
-use Rattle.session.specs.declared.Wants.TheVariants.{Any, Only}
 use Rattle.session.specs.Tests.{tested}
 use Rattle.session.specs.Session.{jacobian_room, Trial, trial_of, fresh, idle, clear, in_answers, clear_answers, used_jacobian, admits, good7, session_tests}
 use Rattle.session.specs.Claims.{Doubles, Typed, Closed}
@@ -67,14 +66,14 @@ by_fields k x s numbers time step relative absolute state derivative previous ja
 
 -- ---- places that hold nothing
 
-pub used_small : (a : Attempt) (n : ℕ) → n ≤ 16 → used_jacobian a n ≤ 256
+pub used_small : (a : Option Wish) (n : ℕ) → n ≤ 16 → used_jacobian a n ≤ 256
 unfolding used_jacobian
 used_small None n h = omega arith
-used_small Supplied n h = area h
-used_small Differenced n h = omega arith
+used_small (Some Given) n h = area h
+used_small (Some Difference) n h = omega arith
 
 -- how much of a Jacobian is in use by a session that is not refused
-pub used_room : (k : Head) (x : List Float) (wants : Wants) (a : Attempt) → tested (session_tests wants (session_of k x)) ≡ Ok tt → used_jacobian a k.n ≤ 256
+pub used_room : (k : Head) (x : List Float) (wants : Option Phase) (a : Option Wish) → tested (session_tests wants (session_of k x)) ≡ Ok tt → used_jacobian a k.n ≤ 256
 unfolding session_of
 used_room k x wants a e = used_small a k.n (passed_sound wants (session_of k x) e).small
 
@@ -126,7 +125,7 @@ all_put used n y e h f =
         ∙ sym (f i (omega arith) m)
 
 -- figures of a session that is not refused are typed
-pub typed_passed : (k : Head) (x : List Float) (wants : Wants) → tested (session_tests wants (session_of k x)) ≡ Ok tt → Doubles FIGURES x → Typed (session_of k x)
+pub typed_passed : (k : Head) (x : List Float) (wants : Option Phase) → tested (session_tests wants (session_of k x)) ≡ Ok tt → Doubles FIGURES x → Typed (session_of k x)
 unfolding session_of
 typed_passed k x wants e d = typed_of k x (omega (arith, (passed_sound wants (session_of k x) e).scheme)) d
 
@@ -144,29 +143,29 @@ module _ (k : Head) (x : List Float) (long : length x ≡ FIGURES) (typed : Type
   abbrev pub rest_figures : List Float
   rest_figures = stores (λ _ _. zero+) answers_at (places * k.count) (stores (λ _ _. zero+) jacobian_at (used_jacobian k.attempt k.n) (set x step_at zero+))
 
-  module _ (passed : tested (session_tests Any s) ≡ Ok tt) where
+  module _ (passed : tested (session_tests None s) ≡ Ok tt) where
     pub few : used_jacobian k.attempt k.n ≤ 256
     unfolding session_of
-    few = used_small k.attempt k.n (passed_sound Any (session_of k x) passed).small
+    few = used_small k.attempt k.n (passed_sound None (session_of k x) passed).small
 
     pub short : k.count ≤ 20
     unfolding session_of
     short =
-        let r = passed_sound Any (session_of k x) passed in
+        let r = passed_sound None (session_of k x) passed in
         omega (arith, r.enough, wanted-small k.scheme k.n k.attempt r.small)
 
     no_jacobian : stores (λ _ _. zero+) 0 (used_jacobian k.attempt k.n) (part x jacobian_at jacobian_room) ≡ replicate jacobian_room zero+
     unfolding session_of
     no_jacobian =
         all_wiped _ jacobian_room _ (length_part x jacobian_at jacobian_room) few
-        (past_used _ jacobian_room _ typed.jacobian (passed_good Any (session_of k x) passed).jacobian)
+        (past_used _ jacobian_room _ typed.jacobian (passed_good None (session_of k x) passed).jacobian)
 
     no_answers : stores (λ _ _. zero+) 0 (places * k.count) (part x answers_at answer_room) ≡ replicate answer_room zero+
     unfolding session_of
     no_answers =
         all_wiped _ answer_room _ (length_part x answers_at answer_room) (omega (arith, short)) (λ i h l.
         plus_zero_is _ (typed.answers.fit i)
-        (behind-answers k.count k.n (part x answers_at answer_room) (passed_good Any (session_of k x) passed).answers i (omega (arith, length_part x answers_at answer_room)) h))
+        (behind-answers k.count k.n (part x answers_at answer_room) (passed_good None (session_of k x) passed).answers i (omega (arith, length_part x answers_at answer_room)) h))
 
     -- up to the attempt nothing changes
     same_part : (at n : ℕ) → 2 ≤ at → at + n ≤ jacobian_at → part rest_figures at n ≡ part x at n
@@ -224,7 +223,7 @@ module _ (k : Head) (x : List Float) (long : length x ≡ FIGURES) (typed : Type
 
   -- ---- an attempt, of a session at rest
 
-  module _ (passed : tested (session_tests (Only Rest) (session_of k x)) ≡ Ok tt) (step : Float) (a : Attempt) (j : List Float) (size : Doubles jacobian_room j)
+  module _ (passed : tested (session_tests (Some Rest) (session_of k x)) ≡ Ok tt) (step : Float) (a : Option Wish) (j : List Float) (size : Doubles jacobian_room j)
       (unused : clear (used_jacobian a k.n) j ≡ true) where
     abbrev pub attempting : Head
     attempting = record { scheme = k.scheme; n = k.n; history = k.history; attempt = a; count = k.count }
@@ -237,7 +236,7 @@ module _ (k : Head) (x : List Float) (long : length x ≡ FIGURES) (typed : Type
 
     some_used : used_jacobian a k.n ≤ 256
     unfolding session_of
-    some_used = used_small a k.n (passed_sound (Only Rest) (session_of k x) passed).small
+    some_used = used_small a k.n (passed_sound (Some Rest) (session_of k x) passed).small
 
     no_count : k.count ≡ 0
     unfolding idle fresh session_of
@@ -329,7 +328,7 @@ module _ (k : Head) (x : List Float) (long : length x ≡ FIGURES) (y : List Flo
       ap (session_of answering) (e ∙ ap (λ (n : ℕ). stores (λ i _. y ! i) (answers_at + places * k.count) n x) l) ∙ at_answer
 
   -- +0.0 in its places again
-  pub taken_back : Typed (session_of k x) → ((i : ℕ) → T (fits binary64 (x ! i))) → (wants : Wants) → tested (session_tests wants (session_of k x)) ≡ Ok tt
+  pub taken_back : Typed (session_of k x) → ((i : ℕ) → T (fits binary64 (x ! i))) → (wants : Option Phase) → tested (session_tests wants (session_of k x)) ≡ Ok tt
       → stores (λ _ _. zero+) (answers_at + places * k.count) places answer_figures ≡ x
   unfolding session_of
   taken_back typed fit wants passed =
@@ -578,9 +577,9 @@ module _ (x : List Float) (e : length x ≡ FIGURES) where
   at_nothing k y n w = ap (session_of k) w ∙ no_session k n
 
 -- a session that a call in one phase takes is taken by one in any
-pub passes_any : (wants : Wants) (s : Session) → tested (session_tests wants s) ≡ Ok tt → tested (session_tests Any s) ≡ Ok tt
+pub passes_any : (wants : Option Phase) (s : Session) → tested (session_tests wants s) ≡ Ok tt → tested (session_tests None s) ≡ Ok tt
 unfolding Closed good7 admits
-passes_any wants s e = good_closed (passed_good wants s e) Any
+passes_any wants s e = good_closed (passed_good wants s e) None
 
 -- ---- accept
 

@@ -1,5 +1,5 @@
 -- The six calls of a session. Each gives the answer, the session returned and, where one is lent, the output: all that a call does. Definitions only.
-use Rattle.std.specs.Prelude.{ℕ, ◌+◌, ◌*◌, Bool, true, cond, ◌&&◌, ◌||◌, List, [], ◌∷◌, ◌++◌, eqb, Float, length, replicate, Result, Ok, Err}
+use Rattle.std.specs.Prelude.{ℕ, ◌+◌, ◌*◌, Bool, true, cond, ◌&&◌, ◌||◌, List, [], ◌∷◌, ◌++◌, eqb, Float, length, replicate, Result, Ok, Err, Option, Some, None}
 use Rattle.std.specs.Float.Ieee.{le}
 use Rattle.loops.specs.Loop.{tab, stores, ◌!◌}
 use Rattle.float.specs.Arith.{◌⊕◌, zero+, epsilon, finite}
@@ -16,12 +16,8 @@ use Rattle.session.specs.declared.Answer.TheVariants.{Ask, Ready, Resting, First
 use Rattle.session.specs.declared.Refusal.{Refusal}
 use Rattle.session.specs.declared.Refusal.TheVariants as Why
 use Rattle.session.specs.declared.History.TheVariants.{Missing, Held}
-use Rattle.session.specs.declared.Attempt.{Attempt}
-use Rattle.session.specs.declared.Attempt.TheVariants.{Supplied, Differenced}
 use Rattle.session.specs.declared.Wish.{Wish}
-use Rattle.session.specs.declared.Wish.TheVariants.{Given, Difference}
 use Rattle.session.specs.declared.Phase.TheVariants.{Rest, Asking, Waiting}
-use Rattle.session.specs.declared.Wants.TheVariants.{Any, Only}
 use Rattle.session.specs.Tests.{Tests, tested, unless}
 use Rattle.session.specs.Session.{Run, joined, run_of, fresh, idle, clear, used_jacobian, wanted_by, step_ok, session_tests, progress}
 
@@ -71,7 +67,7 @@ nothing =
     })
 
 -- the run of s with another attempt, which has no answer yet
-unfoldable pub begun : Session → Float → Attempt → List Float → Session
+unfoldable pub begun : Session → Float → Option Wish → List Float → Session
 begun s step attempt jacobian = joined (run_of s) (fresh attempt step jacobian)
 
 -- the run of s at rest
@@ -140,13 +136,8 @@ settled s derivative (ended x e g work) = arrived s x derivative g
 unfoldable pub vector_tests : ℕ → List Float → Bool → Tests
 vector_tests n x lent = (clear n x && lent, Why.Places) ∷ (all_finite x, Why.NotFinite) ∷ []
 
--- the attempt that a wish begins
-unfoldable pub attempt_of : Wish → Attempt
-attempt_of Given = Supplied
-attempt_of Difference = Differenced
-
 -- a step, an attempt and its Jacobian, with the lent output's length
-unfoldable pub attempt_tests : ℕ → Float → Attempt → List Float → ℕ → Tests
+unfoldable pub attempt_tests : ℕ → Float → Option Wish → List Float → ℕ → Tests
 attempt_tests n step attempt jacobian lent =
     (clear (used_jacobian attempt n) jacobian && eqb lent n, Why.Places) ∷ (step_ok step, Why.Step) ∷ (all_finite jacobian, Why.NotFinite) ∷ []
 
@@ -154,27 +145,27 @@ attempt_tests n step attempt jacobian lent =
 unfoldable pub largest_tests : Float → Tests
 largest_tests largest = (le epsilon largest, Why.Step) ∷ []
 
-unfoldable pub begin_tests : Session → Float → Attempt → List Float → ℕ → Tests
-begin_tests s step attempt jacobian lent = session_tests (Only Rest) s ++ attempt_tests s.n step attempt jacobian lent
+unfoldable pub begin_tests : Session → Float → Option Wish → List Float → ℕ → Tests
+begin_tests s step attempt jacobian lent = session_tests (Some Rest) s ++ attempt_tests s.n step attempt jacobian lent
 
 unfoldable pub supply_tests : Session → List Float → ℕ → Tests
-supply_tests s answer lent = session_tests (Only Asking) s ++ vector_tests s.n answer (eqb lent s.n)
+supply_tests s answer lent = session_tests (Some Asking) s ++ vector_tests s.n answer (eqb lent s.n)
 
 unfoldable pub accept_tests : Session → List Float → Tests
-accept_tests s derivative = session_tests (Only Waiting) s ++ vector_tests s.n derivative true
+accept_tests s derivative = session_tests (Some Waiting) s ++ vector_tests s.n derivative true
 
 unfoldable pub first_step_tests : Session → Float → Tests
-first_step_tests s largest = session_tests Any s ++ largest_tests largest
+first_step_tests s largest = session_tests None s ++ largest_tests largest
 
 -- ---- the calls
 
 unfoldable pub open_call : Run → Told
-open_call r = unless (tested (session_tests Any (opened r))) (refuse nothing) (tell Resting (opened r))
+open_call r = unless (tested (session_tests None (opened r))) (refuse nothing) (tell Resting (opened r))
 
 unfoldable pub begin_call : Session → Float → Wish → List Float → List Float → Outcome
 begin_call s step wish jacobian out =
-    let next = begun s step (attempt_of wish) jacobian in
-    unless (tested (begin_tests s step (attempt_of wish) jacobian (length out))) (refuse_lent s out) (shown s next out (progress next))
+    let next = begun s step (Some wish) jacobian in
+    unless (tested (begin_tests s step (Some wish) jacobian (length out))) (refuse_lent s out) (shown s next out (progress next))
 
 unfoldable pub supply_call : Session → List Float → List Float → Outcome
 supply_call s answer out =
@@ -185,7 +176,7 @@ unfoldable pub accept_call : Session → List Float → Told
 accept_call s derivative = unless (tested (accept_tests s derivative)) (refuse s) (settled s derivative (progress s))
 
 unfoldable pub drop_call : Session → Told
-drop_call s = unless (tested (session_tests Any s)) (refuse s) (tell Resting (rested s))
+drop_call s = unless (tested (session_tests None s)) (refuse s) (tell Resting (rested s))
 
 unfoldable pub first_step_call : Session → Float → Told
 first_step_call s largest =

@@ -1,5 +1,5 @@
 -- What follows from the definitions of the calls: counts, closed sessions, tolerances, products, drops, the first step and the error norms. Definitions only.
-use Rattle.std.specs.Prelude.{ℕ, ◌*◌, ◌≤◌, ◌<◌, ◌≡◌, true, false, cond, List, [], ◌∷◌, T, Float, length, Result, Ok, Err}
+use Rattle.std.specs.Prelude.{ℕ, ◌*◌, ◌≤◌, ◌<◌, ◌≡◌, true, false, cond, List, [], ◌∷◌, T, Float, length, Result, Ok, Err, Option, Some}
 use Rattle.std.specs.Float.{binary64}
 use Rattle.std.specs.Float.Ieee.{fits, is_nan}
 use Rattle.loops.specs.Loop.{◌!◌}
@@ -8,6 +8,7 @@ use Rattle.evaluation.specs.Sizes.{places, answer_room}
 use Rattle.matrix.specs.Matrix.{Few}
 use Rattle.methods.specs.Step.{exponentials, asking}
 use Rattle.engine.specs.Claims.{Between}
+use Rattle.session.specs.declared.Phase.{Phase}
 use Rattle.session.specs.declared.Session.{Session}
 use Rattle.session.specs.declared.Told.{Told}
 use Rattle.session.specs.declared.Answer.{Answer}
@@ -16,8 +17,6 @@ use Rattle.session.specs.declared.Refusal.{Refusal}
 use Rattle.session.specs.declared.Refusal.TheVariants as Why
 use Rattle.session.specs.declared.Wish.{Wish}
 use Rattle.session.specs.declared.Phase.TheVariants.{Rest, Waiting}
-use Rattle.session.specs.declared.Wants.{Wants}
-use Rattle.session.specs.declared.Wants.TheVariants.{Only}
 use Rattle.session.specs.Tests.{tested}
 use Rattle.session.specs.Values.{values_of, number}
 use Rattle.session.specs.Session.{Run, jacobian_room, wanted_by, good1, good7, positive, good4, session_tests, is_held, progress}
@@ -75,12 +74,12 @@ pub record Counts : Type 0 where
   pub begin : (s : Session) (step : Float) (wish : Wish) (jacobian out : List Float) → Counted (begin_call s step wish jacobian out).told
   pub supply : (s : Session) (answer out : List Float) → Counted (supply_call s answer out).told
   -- a session that accept takes is never still asking
-  pub accept : (s : Session) → tested (session_tests (Only Waiting) s) ≡ Ok tt → (x : List Float) (time : Float) → progress s ≡ asking x time → ⊥
+  pub accept : (s : Session) → tested (session_tests (Some Waiting) s) ≡ Ok tt → (x : List Float) (time : Float) → progress s ≡ asking x time → ⊥
 
 -- ---- closed: a session that an accepted call returns is refused by nothing but its phase
 
 unfoldable pub Closed : Session → Type 0
-Closed s = (wants : Wants) → tested (session_tests wants s) ≡ cond (good7 wants s) (Ok tt) (Err Why.Phase)
+Closed s = (wants : Option Phase) → tested (session_tests wants s) ≡ cond (good7 wants s) (Ok tt) (Err Why.Phase)
 
 pub record Closes : Type 0 where
   pub opens : (r : Run) → number (open_call r).answer ≡ 0 → Closed (open_call r).session
@@ -129,9 +128,9 @@ supplies ((answer, out) ∷ rest) = supply answer out ∷ supplies rest
 
 pub record Drops : Type 0 where
   -- at rest: the session as it was
-  pub at_rest : (s : Session) → Typed s → tested (session_tests (Only Rest) s) ≡ Ok tt → drop_call s ≡ tell Resting s
+  pub at_rest : (s : Session) → Typed s → tested (session_tests (Some Rest) s) ≡ Ok tt → drop_call s ≡ tell Resting s
   -- after begin and any supplies, refused ones too: the session before begin
-  pub attempt : (s : Session) → Typed s → tested (session_tests (Only Rest) s) ≡ Ok tt
+  pub attempt : (s : Session) → Typed s → tested (session_tests (Some Rest) s) ≡ Ok tt
       → (step : Float) (wish : Wish) (jacobian out : List Float) (answers : List (List Float × List Float)) → TypedCalls (supplies answers)
       → drop_call (after s (begin step wish jacobian out ∷ supplies answers)) ≡ tell Resting s
   -- every call refuses what a refused open returns by 1

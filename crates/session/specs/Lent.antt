@@ -1,9 +1,8 @@
 -- The calls over lent figures: what each leaves of the session whose figures it was lent. Definitions only.
-use Rattle.std.specs.Prelude.{ℕ, ◌*◌, Bool, cond, ◌&&◌, List, Float, take, Result, Ok, Err}
+use Rattle.std.specs.Prelude.{ℕ, ◌*◌, Bool, cond, ◌&&◌, List, Float, take, Result, Ok, Err, None}
 use Rattle.session.specs.declared.Session.{Session}
 use Rattle.session.specs.declared.Head.{Head}
 use Rattle.session.specs.declared.History.{History}
-use Rattle.session.specs.declared.Attempt.TheVariants.{None}
 use Rattle.session.specs.declared.Left.{Left}
 use Rattle.session.specs.declared.Told.{Told}
 use Rattle.session.specs.declared.Answer.{Answer}

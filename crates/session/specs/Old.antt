@@ -1,11 +1,12 @@
 -- A session of the layout before request 1, with one absolute tolerance, and how it is brought over. Definitions only.
-use Rattle.std.specs.Prelude.{ℕ, ◌+◌, ◌≤◌, ◌<◌, ◌≡◌, Bool, false, cond, ◌&&◌, List, [], ◌∷◌, ltb, Float, Result, Ok, Err}
+use Rattle.std.specs.Prelude.{ℕ, ◌+◌, ◌≤◌, ◌<◌, ◌≡◌, Bool, false, cond, ◌&&◌, List, [], ◌∷◌, ltb, Float, Result, Ok, Err, Option}
 use Rattle.loops.specs.Loop.{tab, ◌!◌}
 use Rattle.float.specs.Arith.{zero+}
 use Rattle.evaluation.specs.Evaluation.{all_finite}
 use Rattle.evaluation.specs.Sizes.{places, answer_room}
 use Rattle.engine.specs.Engine.{scaled_error_norm, estimate_initial_step}
 use Rattle.engine.specs.Claims.{Equal}
+use Rattle.session.specs.declared.Phase.{Phase}
 use Rattle.session.specs.declared.Session.{Session}
 use Rattle.session.specs.declared.OldSession.{OldSession}
 use Rattle.session.specs.declared.Head.{Head}
@@ -14,7 +15,6 @@ use Rattle.methods.specs.declared.Work.{Work}
 use Rattle.session.specs.declared.Answer.TheVariants.{Ready, FirstStep, Norm}
 use Rattle.session.specs.declared.Refusal.{Refusal}
 use Rattle.session.specs.declared.Refusal.TheVariants as Why
-use Rattle.session.specs.declared.Wants.{Wants}
 use Rattle.session.specs.Tests.{Tests, refusal_number, tested, unless}
 use Rattle.session.specs.Values.{number}
 use Rattle.session.specs.Session.{jacobian_room, clear, used_history, wanted_by, size_ok, attempt_places, good2, good7, positive, good5, good3, session_tests}
@@ -107,7 +107,7 @@ unfoldable pub old_run_places : OldSession → Bool
 old_run_places o = clear o.n o.state && clear o.n o.derivative && clear (used_history o.history o.n) o.previous
 
 -- the tests of an old session: as those of today, which but for 1 and 4 read no tolerance, so that it has none for them
-unfoldable pub old_tests : Wants → OldSession → Tests
+unfoldable pub old_tests : Option Phase → OldSession → Tests
 old_tests wants o =
     let s = tolerating o [] in
     (cond (size_ok o.n) (old_run_places o && attempt_places s) false, Why.Places)
@@ -135,7 +135,7 @@ old_norm_call n relative absolute error state candidate =
 
 pub record AsBefore : Type 0 where
   -- a session that is brought over is judged as it was: n of every kind
-  pub judged : (wants : Wants) (o : OldSession) → tested (session_tests wants (brought_over o)) ≡ tested (old_tests wants o)
+  pub judged : (wants : Option Phase) (o : OldSession) → tested (session_tests wants (brought_over o)) ≡ tested (old_tests wants o)
   -- so the next call, whatever it hands in, refuses by that number each one that it would have refused before
   pub next : (c : Call) (o : OldSession) (refusal : Refusal) → tested (old_tests (wants_of c) o) ≡ Err refusal → number (perform c (brought_over o)).told.answer ≡ refusal_number refusal
   -- its tolerance stands in the first n places, and +0.0 in the others

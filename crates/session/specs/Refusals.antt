@@ -1,5 +1,5 @@
 -- Demand 1, read off the definitions of the calls: which number a call gives, and what a refusal leaves. Definitions only.
-use Rattle.std.specs.Prelude.{ℕ, ◌≡◌, ◌⊎◌, Bool, true, false, List, [], ◌∷◌, ◌++◌, Float, length}
+use Rattle.std.specs.Prelude.{ℕ, ◌≡◌, ◌⊎◌, Bool, true, false, List, [], ◌∷◌, ◌++◌, Float, length, Some, None}
 use Rattle.float.specs.Arith.{◌⊕◌, finite}
 use Rattle.matrix.specs.Matrix.{admitted}
 use Rattle.matrix.specs.Vector.{vec}
@@ -9,12 +9,11 @@ use Rattle.methods.specs.Step.{Progress, refused, asking, ended}
 use Rattle.session.specs.declared.Session.{Session}
 use Rattle.session.specs.declared.Told.{Told}
 use Rattle.session.specs.declared.Wish.{Wish}
-use Rattle.session.specs.declared.Wants.TheVariants.{Any}
 use Rattle.session.specs.declared.Refusal.TheVariants as Why
 use Rattle.session.specs.Tests.{Tests, refusal_number}
 use Rattle.session.specs.Values.{number}
 use Rattle.session.specs.Session.{Run, session_tests, progress}
-use Rattle.session.specs.Calls.{Outcome, opened, nothing, begun, answered, attempt_of, begin_tests, supply_tests, accept_tests, first_step_tests, open_call, begin_call, supply_call, accept_call}
+use Rattle.session.specs.Calls.{Outcome, opened, nothing, begun, answered, begin_tests, supply_tests, accept_tests, first_step_tests, open_call, begin_call, supply_call, accept_call}
 use Rattle.session.specs.Calls.{drop_call, first_step_call}
 use Rattle.session.specs.Bare.{Bare, exponential_tests, phi_tests, norm_tests, exponential_call, phi_call, norm_call}
 
@@ -33,15 +32,15 @@ works (ended x e g work) = true
 
 -- the number that each call gives, for every session and whatever is handed in
 pub record Numbers : Type 0 where
-  pub opens : (r : Run) → First (session_tests Any (opened r)) (number (open_call r).answer)
+  pub opens : (r : Run) → First (session_tests None (opened r)) (number (open_call r).answer)
   pub begin : (s : Session) (step : Float) (wish : Wish) (jacobian out : List Float)
-      → First (begin_tests s step (attempt_of wish) jacobian (length out) ++ ((works (progress (begun s step (attempt_of wish) jacobian)), Why.Arithmetic) ∷ []))
+      → First (begin_tests s step (Some wish) jacobian (length out) ++ ((works (progress (begun s step (Some wish) jacobian)), Why.Arithmetic) ∷ []))
       (number (begin_call s step wish jacobian out).told.answer)
   pub supply : (s : Session) (answer out : List Float)
       → First (supply_tests s answer (length out) ++ ((works (progress (answered s answer)), Why.Arithmetic) ∷ [])) (number (supply_call s answer out).told.answer)
   pub accept : (s : Session) (derivative : List Float)
       → First (accept_tests s derivative ++ ((works (progress s), Why.Arithmetic) ∷ (finite (s.time ⊕ s.step), Why.Arithmetic) ∷ [])) (number (accept_call s derivative).answer)
-  pub drop : (s : Session) → First (session_tests Any s) (number (drop_call s).answer)
+  pub drop : (s : Session) → First (session_tests None s) (number (drop_call s).answer)
   pub first_step : (s : Session) (largest : Float) → First (first_step_tests s largest) (number (first_step_call s largest).answer)
   pub exponential : (size : ℕ) (m out : List Float)
       → First (exponential_tests size m (length out) ++ ((admitted m size, Why.Arithmetic) ∷ [])) (number (exponential_call size m out).answer)

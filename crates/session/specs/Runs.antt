@@ -1,10 +1,9 @@
 -- An opening and a list of calls after it, each on the session that the last one returned. Definitions only.
-use Rattle.std.specs.Prelude.{List, [], ◌∷◌, Float}
+use Rattle.std.specs.Prelude.{List, [], ◌∷◌, Float, Option, Some, None}
+use Rattle.session.specs.declared.Phase.{Phase}
 use Rattle.session.specs.declared.Session.{Session}
 use Rattle.session.specs.declared.Wish.{Wish}
 use Rattle.session.specs.declared.Phase.TheVariants.{Rest, Asking, Waiting}
-use Rattle.session.specs.declared.Wants.{Wants}
-use Rattle.session.specs.declared.Wants.TheVariants.{Any, Only}
 use Rattle.session.specs.Session.{Run}
 use Rattle.session.specs.Calls.{Outcome, outcome, open_call, begin_call, supply_call, accept_call, drop_call, first_step_call}
 
@@ -17,12 +16,12 @@ pub data Call : Type 0 where
   first_step : Float → Call
 
 -- in which phase it wants the session
-unfoldable pub wants_of : Call → Wants
-wants_of (begin step wish jacobian out) = Only Rest
-wants_of (supply answer out) = Only Asking
-wants_of (accept derivative) = Only Waiting
-wants_of drop = Any
-wants_of (first_step largest) = Any
+unfoldable pub wants_of : Call → Option Phase
+wants_of (begin step wish jacobian out) = Some Rest
+wants_of (supply answer out) = Some Asking
+wants_of (accept derivative) = Some Waiting
+wants_of drop = None
+wants_of (first_step largest) = None
 
 -- demand 2's definition of a call; one that is lent no output leaves none
 unfoldable pub perform : Call → Session → Outcome

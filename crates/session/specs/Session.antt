@@ -1,5 +1,5 @@
 -- A session, what a call refuses it for, and how far its attempt has come. Definitions only.
-use Rattle.std.specs.Prelude.{ℕ, ◌+◌, ◌-◌, ◌*◌, ◌/◌, ◌%◌, ◌≤◌, ◌<◌, ◌≡◌, Bool, true, false, cond, not, ◌&&◌, ◌||◌, List, [], ◌∷◌, ltb, leb, eqb, Float, length, replicate, take}
+use Rattle.std.specs.Prelude.{ℕ, ◌+◌, ◌-◌, ◌*◌, ◌/◌, ◌%◌, ◌≤◌, ◌<◌, ◌≡◌, Bool, true, false, cond, not, ◌&&◌, ◌||◌, List, [], ◌∷◌, ltb, leb, eqb, Float, length, replicate, take, Option, Some, None}
 use Rattle.std.specs.Float.Ieee.{lt, eq}
 use Rattle.loops.specs.Loop.{every, mat, ◌!◌}
 use Rattle.float.specs.Arith.{zero+, finite, plus_zero}
@@ -9,15 +9,13 @@ use Rattle.methods.specs.Sizes.{etd2_number}
 use Rattle.methods.specs.declared.Point.{Point}
 use Rattle.methods.specs.Step.{Progress, refused, asking, questions, perform_step}
 use Rattle.engine.specs.Engine.{perturbed, jacobian_entry, column_ok}
+use Rattle.session.specs.declared.Wish.TheVariants.{Given, Difference}
+use Rattle.session.specs.declared.Wish.{Wish}
 use Rattle.session.specs.declared.Session.{Session}
 use Rattle.session.specs.declared.History.{History}
 use Rattle.session.specs.declared.History.TheVariants.{Missing, Held}
-use Rattle.session.specs.declared.Attempt.{Attempt}
-use Rattle.session.specs.declared.Attempt.TheVariants.{None, Supplied, Differenced}
 use Rattle.session.specs.declared.Phase.{Phase}
 use Rattle.session.specs.declared.Phase.TheVariants.{Rest, Asking, Waiting}
-use Rattle.session.specs.declared.Wants.{Wants}
-use Rattle.session.specs.declared.Wants.TheVariants.{Any, Only}
 use Rattle.session.specs.declared.Refusal.TheVariants as Why
 use Rattle.std.specs.Prelude.{Option, Some, None as Nothing}
 use Rattle.session.specs.Tests.{Tests}
@@ -52,7 +50,7 @@ pub record Run : Type 0 where
 
 -- the attempt, if there is one, with its answers so far
 pub record Trial : Type 0 where
-  pub attempt : Attempt
+  pub attempt : Option Wish
   pub step : Float
   pub jacobian : List Float
   pub count : ℕ
@@ -94,7 +92,7 @@ abbrev pub trial_of : Session → Trial
 trial_of s = record { attempt = s.attempt; step = s.step; jacobian = s.jacobian; count = s.count; answers = s.answers }
 
 -- an attempt that has no answer yet
-unfoldable pub fresh : Attempt → Float → List Float → Trial
+unfoldable pub fresh : Option Wish → Float → List Float → Trial
 fresh attempt step jacobian = record { attempt = attempt; step = step; jacobian = jacobian; count = 0; answers = replicate answer_room zero+ }
 
 -- no attempt
@@ -121,37 +119,31 @@ used_history Missing n = 0
 used_history Held n = n
 
 -- how many places of the Jacobian are in use
-unfoldable pub used_jacobian : Attempt → ℕ → ℕ
+unfoldable pub used_jacobian : Option Wish → ℕ → ℕ
 used_jacobian None n = 0
-used_jacobian Supplied n = n * n
-used_jacobian Differenced n = 0
+used_jacobian (Some Given) n = n * n
+used_jacobian (Some Difference) n = 0
 
 -- without an attempt the step is a place not in use
-unfoldable pub step_clear : Attempt → Float → Bool
+unfoldable pub step_clear : Option Wish → Float → Bool
 step_clear None step = plus_zero step
-step_clear Supplied step = true
-step_clear Differenced step = true
+step_clear (Some wish) step = true
 
 -- how many answers an attempt asks for: its right-hand sides
-unfoldable pub wanted : ℕ → ℕ → Attempt → ℕ
+unfoldable pub wanted : ℕ → ℕ → Option Wish → ℕ
 wanted scheme n None = 0
-wanted scheme n Supplied = questions scheme
-wanted scheme n Differenced = n + questions scheme
+wanted scheme n (Some Given) = questions scheme
+wanted scheme n (Some Difference) = n + questions scheme
 
 abbrev pub wanted_by : Session → ℕ
 wanted_by s = wanted s.scheme s.n s.attempt
 
 -- ---- the phase
 
--- with an attempt: asking while an answer is wanted, then waiting for accept
-unfoldable pub phase_with : Bool → Phase
-phase_with more = cond more Asking Waiting
-
--- without one: at rest
-unfoldable pub phase_at : Attempt → Bool → Phase
+-- without an attempt at rest; with one asking while an answer is wanted, then waiting for accept
+unfoldable pub phase_at : Option Wish → Bool → Phase
 phase_at None more = Rest
-phase_at Supplied more = phase_with more
-phase_at Differenced more = phase_with more
+phase_at (Some wish) more = cond more Asking Waiting
 
 unfoldable pub phase_of : Session → Phase
 phase_of s = phase_at s.attempt (ltb s.count (wanted_by s))
@@ -161,10 +153,10 @@ phase_number Rest = 0
 phase_number Asking = 1
 phase_number Waiting = 2
 
--- a call wants the session in one phase, or takes it in any
-unfoldable pub admits : Wants → Phase → Bool
-admits Any phase = true
-admits (Only one) phase = eqb (phase_number one) (phase_number phase)
+-- a call wants the session in one phase, or takes it in any: None
+unfoldable pub admits : Option Phase → Phase → Bool
+admits None phase = true
+admits (Some one) phase = eqb (phase_number one) (phase_number phase)
 
 -- ---- the conditions of document 01's table, on the session: each holds where its number is not given
 
@@ -195,7 +187,7 @@ unfoldable pub good2 : Session → Bool
 good2 s = ltb s.scheme schemes && history_ok s.history s.scheme && leb s.count (wanted_by s)
 
 -- 7: the phase that the call wants
-unfoldable pub good7 : Wants → Session → Bool
+unfoldable pub good7 : Option Phase → Session → Bool
 good7 wants s = admits wants (phase_of s)
 
 -- a tolerance is finite and positive
@@ -215,17 +207,16 @@ unfoldable pub step_ok : Float → Bool
 step_ok step = finite step && not (eq step zero+)
 
 -- 5: the attempt's step
-unfoldable pub good5 : Attempt → Float → Bool
+unfoldable pub good5 : Option Wish → Float → Bool
 good5 None step = true
-good5 Supplied step = step_ok step
-good5 Differenced step = step_ok step
+good5 (Some wish) step = step_ok step
 
 -- 3: every other number
 unfoldable pub good3 : Session → Bool
 good3 s = finite s.time && all_finite s.state && all_finite s.derivative && all_finite s.previous && all_finite s.jacobian && all_finite s.answers
 
 -- the tests of a session, in the order 1, 2, 7, 4, 5, 3
-unfoldable pub session_tests : Wants → Session → Tests
+unfoldable pub session_tests : Option Phase → Session → Tests
 session_tests wants s =
     (good1 s, Why.Places)
     ∷ (good2 s, Why.Scheme)
@@ -277,10 +268,10 @@ differencing s =
     (cond (every s.n column) (stepped s jacobian s.n) refused)
 
 -- by the kind of attempt
-unfoldable pub progress_of : Attempt → Session → Progress
+unfoldable pub progress_of : Option Wish → Session → Progress
 progress_of None s = refused
-progress_of Supplied s = stepped s (take (s.n * s.n) s.jacobian) 0
-progress_of Differenced s = differencing s
+progress_of (Some Given) s = stepped s (take (s.n * s.n) s.jacobian) 0
+progress_of (Some Difference) s = differencing s
 
 -- where the attempt stands
 unfoldable pub progress : Session → Progress

@@ -2,19 +2,20 @@
 // bare calls.
 #![tactic(auto)]
 
-ghost use Rattle.std.specs.Prelude.{◌≡◌, true, cond, ◌&&◌, List, ◌+◌, ◌*◌, ◌≤◌, ◌<◌, ltb, eqb, Float, length, Ok, MatchOption};
+ghost use Rattle.std.specs.Prelude.{◌≡◌, true, cond, ◌&&◌, List, ◌+◌, ◌*◌, ◌≤◌, ◌<◌, ltb, eqb, Float, length, Some, None, is_some, Ok, MatchOption};
+ghost use Rattle.std.specs.List.{list_all};
 ghost use Rattle.loops.specs.Loop.{every, stores, ◌!◌};
 ghost use Rattle.evaluation.specs.Evaluation.{all_finite};
 ghost use Rattle.evaluation.specs.Sizes.{places, answers_kept};
 ghost use Rattle.methods.specs.Step.{progress as reached};
 ghost use Rattle.float.specs.Arith.{zero+};
 ghost use Rattle.session.specs.Tests.{refusal_number, tested};
-ghost use Rattle.session.specs.Session.{jacobian_room, clear, used_history, used_jacobian, step_clear, wanted, phase_with, phase_of, phase_number, admits};
+ghost use Rattle.session.specs.Session.{jacobian_room, clear, used_history, used_jacobian, step_clear, wanted, phase_of, admits};
 ghost use Rattle.session.specs.Session.{good1, history_ok, good2, good7, positive, tolerances_ok, step_ok, good5, session_tests, Sound, attempt_places};
 ghost use Rattle.session.specs.Session.{point_of, stepped, differencing, progress};
 ghost use Rattle.session.specs.Figures.{FIGURES, answers_at, session_of, head_of, figures_of};
 ghost use Rattle.session.specs.Calls.{outcome, told, tell, refuse_lent, opened, nothing, begun, rested, answered, moved, ready_of, shown, arrived, settled};
-ghost use Rattle.session.specs.Calls.{vector_tests, attempt_of, attempt_tests, largest_tests, begin_tests, supply_tests, accept_tests, first_step_tests};
+ghost use Rattle.session.specs.Calls.{vector_tests, attempt_tests, largest_tests, begin_tests, supply_tests, accept_tests, first_step_tests};
 ghost use Rattle.session.specs.Calls.{open_call, begin_call, supply_call, accept_call, drop_call, first_step_call};
 ghost use Rattle.session.specs.Lent.{arrays_finite, unopened, column_of, column_asked, stepped_from, supplied_from, told_by, refused_by, resting_at, remains, fills};
 ghost use Rattle.session.specs.Lent.{lent_call, lent_open, lent_ask, lent_fill};
@@ -46,16 +47,8 @@ pub enum History {
     Held,
 }
 
-// Whether there is an attempt, and whether its Jacobian is supplied or differenced.
-#[derive(Clone, Copy)]
-pub enum Attempt {
-    None,
-    Supplied,
-    Differenced,
-}
-
-// What begin is handed: a Jacobian, or the wish to difference.
-#[derive(Clone, Copy)]
+// What begin is handed, and an attempt goes by: a Jacobian, or the wish to difference.
+#[derive(Clone, Copy, PartialEq, Eq)]
 pub enum Wish {
     Given,
     Difference,
@@ -116,7 +109,7 @@ pub struct Session {
     pub absolute: [f64; PLACES],
     pub history: History,
     pub previous: [f64; PLACES],
-    pub attempt: Attempt,
+    pub attempt: Option<Wish>,
     pub step: f64,
     pub jacobian: [f64; JACOBIAN],
     pub count: usize,
@@ -135,7 +128,7 @@ pub struct OldSession {
     pub absolute: f64,
     pub history: History,
     pub previous: [f64; PLACES],
-    pub attempt: Attempt,
+    pub attempt: Option<Wish>,
     pub step: f64,
     pub jacobian: [f64; JACOBIAN],
     pub count: usize,
@@ -148,7 +141,7 @@ pub struct Head {
     pub scheme: u8,
     pub n: usize,
     pub history: History,
-    pub attempt: Attempt,
+    pub attempt: Option<Wish>,
     pub count: usize,
 }
 
@@ -167,31 +160,26 @@ pub struct Told {
 }
 
 // The phase of a session: at rest, asking, or with all its answers and waiting for accept.
-#[derive(Clone, Copy)]
+#[derive(Clone, Copy, PartialEq, Eq)]
 pub enum Phase {
     Rest,
     Asking,
     Waiting,
 }
 
-// In which phase a call wants the session.
-#[derive(Clone, Copy)]
-pub enum Wants {
-    Any,
-    Only(Phase),
-}
-
 // ---- what a session is refused for
 
 // How many answers an attempt asks for.
-fn wanted(scheme: u8, n: usize, attempt: Attempt) -> usize
+fn wanted(scheme: u8, n: usize, attempt: Option<Wish>) -> usize
     requires { n ≤ places }
     ensures { (result ≡ wanted scheme n attempt) × (result ≤ answers_kept) }
 {
-    match attempt {
-        Attempt::None => 0,
-        Attempt::Supplied => schemes::questions(scheme),
-        Attempt::Differenced => n + schemes::questions(scheme),
+    let Some(wish) = attempt else {
+        return 0;
+    };
+    match wish {
+        Wish::Given => schemes::questions(scheme),
+        Wish::Difference => n + schemes::questions(scheme),
     }
 }
 
@@ -204,24 +192,25 @@ fn used_history(h: History, n: usize) -> usize
     }
 }
 
-fn used_jacobian(a: Attempt, n: usize) -> usize
+fn used_jacobian(a: Option<Wish>, n: usize) -> usize
     requires { n ≤ places }
     ensures { result ≡ used_jacobian a n }
 {
-    match a {
-        Attempt::None => 0,
-        Attempt::Supplied => n * n,
-        Attempt::Differenced => 0,
+    let Some(wish) = a else {
+        return 0;
+    };
+    match wish {
+        Wish::Given => n * n,
+        Wish::Difference => 0,
     }
 }
 
-fn step_clear(a: Attempt, step: f64) -> bool
+fn step_clear(a: Option<Wish>, step: f64) -> bool
     ensures { result ≡ step_clear a step }
 {
     match a {
-        Attempt::None => float::plus_zero(step),
-        Attempt::Supplied => true,
-        Attempt::Differenced => true,
+        None => float::plus_zero(step),
+        Some(_) => true,
     }
 }
 
@@ -251,11 +240,10 @@ fn attempt_places(k: Head, figures: &Figures, calm: bool) -> bool
     ensures { result ≡ attempt_places (session_of k figures.now) }
 {
     let n = k.n;
-    let attempt = k.attempt;
-    step_clear(attempt, figures[STEP_AT])
+    step_clear(k.attempt, figures[STEP_AT])
         & places::clear(
             part::<JACOBIAN>(figures, JACOBIAN_AT),
-            used_jacobian(attempt, n),
+            used_jacobian(k.attempt, n),
             calm,
         )
         & places::clear_answers(part(figures, ANSWERS_AT), k.count, n, calm)
@@ -294,52 +282,36 @@ fn good2(k: Head) -> bool
     requires { k.n ≤ places }
     ensures { (figures : List Float) → result ≡ good2 (session_of k figures) }
 {
-    let history = k.history;
-    let attempt = k.attempt;
     (k.scheme < SCHEMES)
-        & history_ok(history, k.scheme)
-        & (k.count <= wanted(k.scheme, k.n, attempt))
-}
-
-fn phase_number(p: Phase) -> u8
-    ensures { result ≡ phase_number p }
-{
-    match p {
-        Phase::Rest => 0,
-        Phase::Asking => 1,
-        Phase::Waiting => 2,
-    }
-}
-
-fn phase_with(more: bool) -> Phase
-    ensures { result ≡ phase_with more }
-{
-    if more { Phase::Asking } else { Phase::Waiting }
+        & history_ok(k.history, k.scheme)
+        & (k.count <= wanted(k.scheme, k.n, k.attempt))
 }
 
 fn phase_of(k: Head) -> Phase
     requires { k.n ≤ places }
     ensures { (figures : List Float) → result ≡ phase_of (session_of k figures) }
 {
-    let attempt = k.attempt;
-    let more = k.count < wanted(k.scheme, k.n, attempt);
-    match attempt {
-        Attempt::None => Phase::Rest,
-        Attempt::Supplied => phase_with(more),
-        Attempt::Differenced => phase_with(more),
+    let Some(_) = k.attempt else {
+        return Phase::Rest;
+    };
+    if k.count < wanted(k.scheme, k.n, k.attempt) {
+        Phase::Asking
+    } else {
+        Phase::Waiting
     }
 }
 
-fn admits(wants: Wants, phase: Phase) -> bool
+// A call wants the session in one phase, or takes it in any.
+fn admits(wants: Option<Phase>, phase: Phase) -> bool
     ensures { result ≡ admits wants phase }
 {
     match wants {
-        Wants::Any => true,
-        Wants::Only(one) => phase_number(one) == phase_number(phase),
+        None => true,
+        Some(one) => one == phase,
     }
 }
 
-fn good7(wants: Wants, k: Head) -> bool
+fn good7(wants: Option<Phase>, k: Head) -> bool
     requires { k.n ≤ places }
     ensures { (figures : List Float) → result ≡ good7 wants (session_of k figures) }
 {
@@ -358,32 +330,26 @@ fn step_ok(h: f64) -> bool
     float::finite(h) & !(h == 0.0)
 }
 
-// Whether each of the first n is finite and positive.
-fn all_positive(x: &[f64], n: usize) -> bool
-    requires { n ≤ length x.now }
-    ensures { result ≡ every n (λ i. positive (x.now ! i)) }
+// Whether each is finite and positive.
+fn all_positive(x: &[f64]) -> bool
+    ensures { result ≡ list_all positive x.now }
 {
-    let mut ok = true;
-    for i in 0..n {
-        ok = ok & positive(x[i]);
-    }
-    ok
+    x.iter().all(|&x| positive(x))
 }
 
 fn tolerances_ok(n: usize, relative: f64, absolute: &[f64; PLACES]) -> bool
     requires { n ≤ places }
     ensures { result ≡ tolerances_ok n «relative» absolute.now }
 {
-    positive(relative) & all_positive(absolute, n)
+    positive(relative) & all_positive(&absolute[..n])
 }
 
-fn good5(a: Attempt, step: f64) -> bool
+fn good5(a: Option<Wish>, step: f64) -> bool
     ensures { result ≡ good5 a step }
 {
     match a {
-        Attempt::None => true,
-        Attempt::Supplied => step_ok(step),
-        Attempt::Differenced => step_ok(step),
+        None => true,
+        Some(_) => step_ok(step),
     }
 }
 
@@ -395,7 +361,7 @@ fn arrays_finite(figures: &Figures) -> bool
 }
 
 // Why a session is refused, if it is.
-fn test_session(wants: Wants, k: Head, figures: &Figures) -> Result<(), Refusal>
+fn test_session(wants: Option<Phase>, k: Head, figures: &Figures) -> Result<(), Refusal>
     ensures { result ≡ tested (session_tests wants (session_of k figures.now)) }
 {
     let calm = arrays_finite(figures);
@@ -405,10 +371,9 @@ fn test_session(wants: Wants, k: Head, figures: &Figures) -> Result<(), Refusal>
     if !good2(k) {
         return Err(Refusal::Scheme);
     }
-    let attempt = k.attempt;
     let in_phase = good7(wants, k);
     let tolerances = tolerances_ok(k.n, figures[RELATIVE_AT], part(figures, ABSOLUTE_AT));
-    let step = good5(attempt, figures[STEP_AT]);
+    let step = good5(k.attempt, figures[STEP_AT]);
     let numbers = float::finite(figures[TIME_AT]) & calm;
     if !in_phase {
         return Err(Refusal::Phase);
@@ -435,8 +400,8 @@ fn test_run(
     derivative: &[f64; PLACES],
     previous: &[f64; PLACES],
 ) -> Result<(), Refusal>
-    requires { (k.attempt ≡ Attempt.None) × (k.count ≡ 0) }
-    ensures { result ≡ tested (session_tests Wants.Any (opened (record {
+    requires { (k.attempt ≡ None) × (k.count ≡ 0) }
+    ensures { result ≡ tested (session_tests None (opened (record {
       scheme = k.scheme;
       n = k.n;
       time = «time»;
@@ -486,19 +451,10 @@ fn test_vector(n: usize, x: &[f64; PLACES], lent: bool) -> Result<(), Refusal>
     Ok(())
 }
 
-fn attempt_of(w: Wish) -> Attempt
-    ensures { result ≡ attempt_of w }
-{
-    match w {
-        Wish::Given => Attempt::Supplied,
-        Wish::Difference => Attempt::Differenced,
-    }
-}
-
 fn test_attempt(
     n: usize,
     step: f64,
-    a: Attempt,
+    a: Option<Wish>,
     jacobian: &[f64; JACOBIAN],
     lent: usize,
 ) -> Result<(), Refusal>
@@ -533,13 +489,13 @@ fn test_begin(
     k: Head,
     figures: &Figures,
     step: f64,
-    a: Attempt,
+    a: Option<Wish>,
     jacobian: &[f64; JACOBIAN],
     lent: usize,
 ) -> Result<(), Refusal>
     ensures { result ≡ tested (begin_tests (session_of k figures.now) «step» a jacobian.now lent) }
 {
-    test_session(Wants::Only(Phase::Rest), k, figures)?;
+    test_session(Some(Phase::Rest), k, figures)?;
     test_attempt(k.n, step, a, jacobian, lent)
 }
 
@@ -551,21 +507,21 @@ fn test_supply(
 ) -> Result<(), Refusal>
     ensures { result ≡ tested (supply_tests (session_of k figures.now) answer.now lent) }
 {
-    test_session(Wants::Only(Phase::Asking), k, figures)?;
+    test_session(Some(Phase::Asking), k, figures)?;
     test_vector(k.n, answer, lent == k.n)
 }
 
 fn test_accept(k: Head, figures: &Figures, derivative: &[f64; PLACES]) -> Result<(), Refusal>
     ensures { result ≡ tested (accept_tests (session_of k figures.now) derivative.now) }
 {
-    test_session(Wants::Only(Phase::Waiting), k, figures)?;
+    test_session(Some(Phase::Waiting), k, figures)?;
     test_vector(k.n, derivative, true)
 }
 
 fn test_first_step(k: Head, figures: &Figures, largest: f64) -> Result<(), Refusal>
     ensures { result ≡ tested (first_step_tests (session_of k figures.now) «largest») }
 {
-    test_session(Wants::Any, k, figures)?;
+    test_session(None, k, figures)?;
     test_largest(largest)
 }
 
@@ -683,10 +639,12 @@ fn run_pass(k: Head, figures: &Figures) -> Option<StepResult>
     requires { Sound (session_of k figures.now) }
     ensures { reached result ≡ progress (session_of k figures.now) }
 {
-    match k.attempt {
-        Attempt::None => None,
-        Attempt::Supplied => supplied(k, figures),
-        Attempt::Differenced => differencing(k, figures),
+    let Some(wish) = k.attempt else {
+        return None;
+    };
+    match wish {
+        Wish::Given => supplied(k, figures),
+        Wish::Difference => differencing(k, figures),
     }
 }
 
@@ -703,8 +661,7 @@ fn ready_of(
     ensures { result ≡ ready_of (session_of k figures.now) candidate.now error.now work }
 {
     let n = k.n;
-    let attempt = k.attempt;
-    let rhs = wanted(k.scheme, n, attempt);
+    let rhs = wanted(k.scheme, n, k.attempt);
     if (k.scheme == EXPRB32) | (k.scheme == EXPRB43) {
         let norm = engine::scaled_error_norm(
             n,
@@ -743,9 +700,15 @@ fn show(k: Head, figures: &Figures, out: &mut [f64]) -> Option<Answer>
 
 // An attempt that has no answer yet, of a session at rest.
 // Kept: slices here, in `put_answer` and in `rest`, whose proofs need that each entry is a double: a slice's type tells it, that of a reference to an array does not.
-fn put_attempt(k: Head, figures: &mut [f64], step: f64, attempt: Attempt, jacobian: &[f64]) -> Head
+fn put_attempt(
+    k: Head,
+    figures: &mut [f64],
+    step: f64,
+    attempt: Option<Wish>,
+    jacobian: &[f64],
+) -> Head
     requires figures_len { (length figures.old ≡ FIGURES) × (length jacobian.now ≡ jacobian_room) }
-    requires figures_value { tested (session_tests (Wants.Only Phase.Rest) (session_of k figures.old)) ≡ Ok tt }
+    requires figures_value { tested (session_tests (Some Phase.Rest) (session_of k figures.old)) ≡ Ok tt }
     requires jacobian_value { clear (used_jacobian attempt k.n) jacobian.now ≡ true }
     ensures begun { session_of result figures.new ≡ begun (session_of k figures.old) «step» attempt jacobian.now }
     ensures back { rested (session_of result figures.new) ≡ session_of k figures.old }
@@ -759,7 +722,7 @@ fn put_attempt(k: Head, figures: &mut [f64], step: f64, attempt: Attempt, jacobi
 // One answer more.
 fn put_answer(k: Head, figures: &mut [f64], answer: &[f64; PLACES]) -> Head
     requires figures_len { length figures.old ≡ FIGURES }
-    requires figures_value { tested (session_tests (Wants.Only Phase.Asking) (session_of k figures.old)) ≡ Ok tt }
+    requires figures_value { tested (session_tests (Some Phase.Asking) (session_of k figures.old)) ≡ Ok tt }
     ensures answered { session_of result figures.new ≡ answered (session_of k figures.old) answer.now }
     ensures back { stores (λ _ _. zero+) (answers_at + places * k.count) places figures.new ≡ figures.old }
 {
@@ -783,16 +746,15 @@ fn take_answer_back(k: Head, figures: &mut Figures)
 // No attempt: what it held is +0.0.
 fn rest(k: Head, figures: &mut [f64]) -> Head
     requires figures_len { length figures.old ≡ FIGURES }
-    requires figures_value { tested (session_tests Wants.Any (session_of k figures.old)) ≡ Ok tt }
+    requires figures_value { tested (session_tests None (session_of k figures.old)) ≡ Ok tt }
     ensures { session_of result figures.new ≡ rested (session_of k figures.old) }
 {
-    let attempt = k.attempt;
-    let used = used_jacobian(attempt, k.n);
+    let used = used_jacobian(k.attempt, k.n);
     figures[STEP_AT] = 0.0;
     wipe(figures, JACOBIAN_AT, used);
     wipe(figures, ANSWERS_AT, PLACES * k.count);
     Head {
-        attempt: Attempt::None,
+        attempt: None,
         count: 0,
         ..k
     }
@@ -807,7 +769,7 @@ fn move_on(
     derivative: &[f64; PLACES],
     nonlinear: &[f64; PLACES],
 ) -> Head
-    requires { tested (session_tests Wants.Any (session_of k figures.old)) ≡ Ok tt }
+    requires { tested (session_tests None (session_of k figures.old)) ≡ Ok tt }
     ensures { session_of result figures.new ≡ moved (session_of k figures.old) «time» state.now derivative.now nonlinear.now }
 {
     let next = rest(k, figures);
@@ -834,7 +796,7 @@ fn put_run(
     previous: &[f64; PLACES],
     figures: &mut Figures,
 )
-    ensures { (k : Head) → k.attempt ≡ Attempt.None → k.count ≡ 0 → session_of k figures.new ≡ opened (record {
+    ensures { (k : Head) → k.attempt ≡ None → k.count ≡ 0 → session_of k figures.new ≡ opened (record {
       scheme = k.scheme;
       n = k.n;
       time = «time»;
@@ -872,7 +834,7 @@ fn unopened(scheme: u8, n: usize, history: History) -> Head
         scheme,
         n,
         history,
-        attempt: Attempt::None,
+        attempt: None,
         count: 0,
     }
 }
@@ -885,7 +847,7 @@ fn no_head() -> Head
         scheme: 0,
         n: 0,
         history: History::Missing,
-        attempt: Attempt::None,
+        attempt: None,
         count: 0,
     }
 }
@@ -920,7 +882,7 @@ fn open_over(
     previous: &[f64; PLACES],
     figures: &mut Figures,
 ) -> Left
-    requires { (k.attempt ≡ Attempt.None) × (k.count ≡ 0) }
+    requires { (k.attempt ≡ None) × (k.count ≡ 0) }
     ensures { told_by result figures.new ≡ open_call (record {
       scheme = k.scheme;
       n = k.n;
@@ -953,7 +915,7 @@ fn begin_over(
     ensures { outcome (told_by result figures.new) out.new
         ≡ begin_call (session_of k figures.old) «step» wish jacobian.now out.old }
 {
-    let attempt = attempt_of(wish);
+    let attempt = Some(wish);
     if let Err(refusal) = test_begin(k, figures, step, attempt, jacobian, out.len()) {
         return refused(k, refusal);
     }
@@ -992,7 +954,7 @@ fn arrive(
     derivative: &[f64; PLACES],
     nonlinear: [f64; PLACES],
 ) -> Left
-    requires { tested (session_tests Wants.Any (session_of k figures.old)) ≡ Ok tt }
+    requires { tested (session_tests None (session_of k figures.old)) ≡ Ok tt }
     ensures { told_by result figures.new ≡ arrived (session_of k figures.old) candidate derivative.now nonlinear }
 {
     let t = figures[TIME_AT] + figures[STEP_AT];
@@ -1003,7 +965,7 @@ fn arrive(
 }
 
 fn settle(k: Head, figures: &mut Figures, derivative: &[f64; PLACES]) -> Left
-    requires { tested (session_tests Wants.Any (session_of k figures.old)) ≡ Ok tt }
+    requires { tested (session_tests None (session_of k figures.old)) ≡ Ok tt }
     ensures { told_by result figures.new ≡ settled (session_of k figures.old) derivative.now (progress (session_of k figures.old)) }
 {
     let Some(step) = run_pass(k, figures) else {
@@ -1030,7 +992,7 @@ fn accept_over(k: Head, figures: &mut Figures, derivative: &[f64; PLACES]) -> Le
 fn drop_over(k: Head, figures: &mut Figures) -> Left
     ensures { told_by result figures.new ≡ drop_call (session_of k figures.old) }
 {
-    if let Err(refusal) = test_session(Wants::Any, k, figures) {
+    if let Err(refusal) = test_session(None, k, figures) {
         return refused(k, refusal);
     }
     resting(rest(k, figures))
@@ -1340,11 +1302,7 @@ fn copied_entry(one: f64, i: usize, n: usize) -> f64
 fn copied(n: usize, one: f64) -> [f64; PLACES]
     ensures { result ≡ copied n one }
 {
-    let mut out = [0.0; PLACES];
-    for i in 0..PLACES {
-        out[i] = copied_entry(one, i, n);
-    }
-    out
+    matrix::vector(Dimension::new(PLACES), |i| copied_entry(one, i, n))
 }
 
 impl OldSession {
@@ -1391,18 +1349,14 @@ fn bring_over_figures(n: usize, old: &[f64; OLD_FIGURES], figures: &mut Figures)
 
 impl Head {
     // Fills the figures from those of the old layout; where a length is another, it tells so and writes nothing.
-    pub fn bring_over(self, old: &[f64], figures: &mut [f64]) -> bool
-        ensures { (result ≡ (eqb (length old.now) old_figures && eqb (length figures.old) FIGURES))
-            × (figures.new ≡ lent_bring_over result self old.now figures.old) }
+    pub fn bring_over(self, old: &[f64], figures: &mut [f64]) -> Option<()>
+        ensures long { is_some result ≡ (eqb (length old.now) old_figures && eqb (length figures.old) FIGURES) }
+        ensures brought { figures.new ≡ lent_bring_over (is_some result) self old.now figures.old }
     {
-        let Some(old) = old.as_array() else {
-            return false;
-        };
-        let Some(figures) = figures.as_mut_array() else {
-            return false;
-        };
+        let old = old.as_array()?;
+        let figures = figures.as_mut_array()?;
         bring_over_figures(self.n, old, figures);
-        true
+        Some(())
     }
 }
 

@@ -8,6 +8,7 @@ ghost use Rattle.matrix.specs.Vector.{vec};
 ghost use Rattle.session.specs.Session.{clear, clear_answers};
 
 use evaluation::{ANSWERS, PLACES, ROOM};
+use matrix::Dimension;
 
 // Whether the places from `from` up to `to` are +0.0, of finite numbers: no bit is set in any of them.
 fn blank(x: &[f64], from: usize, to: usize) -> bool
@@ -87,9 +88,7 @@ pub fn copy_out(x: [f64; PLACES], out: &mut [f64])
     requires { length out.old ≤ places }
     ensures { out.new ≡ tab (length out.old) (λ i. x ! i) }
 {
-    for i in 0..out.len() {
-        out[i] = x[i];
-    }
+    out.copy_from_slice(&x[..out.len()]);
 }
 
 // The n numbers of x as a vector.
@@ -98,9 +97,5 @@ pub fn vector(x: &[f64], n: usize) -> [f64; PLACES]
     requires x_len { length x.now ≡ n }
     ensures { result ≡ vec n (λ i. x.now ! i) }
 {
-    let mut out = [0.0; PLACES];
-    for i in 0..n {
-        out[i] = x[i];
-    }
-    out
+    matrix::vector(Dimension::new(n), |i| x[i])
 }

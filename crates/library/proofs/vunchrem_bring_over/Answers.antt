@@ -1,5 +1,5 @@
 -- `library::vunchrem_bring_over` meets its contract. Assumes nothing.
-use Rattle.std.proofs.Common.{refl}
+use mathlib.Core.Path.{refl, sym, ◌∙◌}
 use borrow.Author.Tests.{eq-eqb, ne_eqb}
 use Rattle.session.specs.Old.{lent_bring_over}
 use Rattle.library.specs.Library.{Crossing}
@@ -10,13 +10,15 @@ pub returns-in_default : goal.returns-in_default
 unfolding Crossing
 returns-in_default c = rw (ne_eqb _ _ c.in_default.ensures.cases) (refl, refl)
 
-pub returns-then-bring_over : goal.returns-then-bring_over
+pub returns-then-is_some : goal.returns-then-is_some
 unfolding Crossing lent_bring_over
-returns-then-bring_over c =
-    rw (eq-eqb _ _ c.in-Some.ensures.cases.long, ← c.bring_over.ensures.0, c.if-bring_over.true)
-    (refl, brought _ _ _ (rw (c.if-bring_over.true, c.head_in.ensures, c.in-Some.ensures.cases.same) at c.bring_over.ensures.1))
+returns-then-is_some c =
+    let made = sym c.is_some.ensures ∙ c.if-is_some.true in
+    rw (eq-eqb _ _ c.in-Some.ensures.cases.long, ← c.bring_over.ensures.long, made)
+    (refl, brought _ _ _ (rw (made, c.head_in.ensures, c.in-Some.ensures.cases.same) at c.bring_over.ensures.brought))
 
-pub returns-else-bring_over : goal.returns-else-bring_over
+pub returns-else-is_some : goal.returns-else-is_some
 unfolding Crossing lent_bring_over
-returns-else-bring_over c =
-    rw (eq-eqb _ _ c.in-Some.ensures.cases.long, ← c.bring_over.ensures.0, c.if-bring_over.false) (refl, rw c.if-bring_over.false at c.bring_over.ensures.1)
+returns-else-is_some c =
+    let made = sym c.is_some.ensures ∙ c.if-is_some.false in
+    rw (eq-eqb _ _ c.in-Some.ensures.cases.long, ← c.bring_over.ensures.long, made) (refl, (rw made at c.bring_over.ensures.brought))

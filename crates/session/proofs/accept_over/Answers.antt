@@ -1,7 +1,7 @@
 -- `session::accept_over` meets its contract. Assumes nothing.
 use mathlib.Core.Path.{sym, ◌∙◌}
+use Rattle.std.specs.Prelude.{Some}
 use Rattle.session.specs.declared.Phase.TheVariants.{Waiting}
-use Rattle.session.specs.declared.Wants.TheVariants.{Only}
 use Rattle.session.specs.Tests.{unless}
 use Rattle.session.specs.Calls.{accept_call}
 use Rattle.session.proofs.Laws.{accept_passes}
@@ -9,7 +9,7 @@ use Rattle.session.proofs.Writes.{passes_any}
 use Rattle.session.proofs.accept_over.Goals as goal
 
 pub settle-requires : goal.settle-requires
-settle-requires c = passes_any (Only Waiting) _ (accept_passes _ _ (sym c.test_accept.ensures ∙ c.in_default.is)).0
+settle-requires c = passes_any (Some Waiting) _ (accept_passes _ _ (sym c.test_accept.ensures ∙ c.in_default.is)).0
 
 pub returns-in-Err : goal.returns-in-Err
 unfolding accept_call unless

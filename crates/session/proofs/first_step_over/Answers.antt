@@ -1,9 +1,9 @@
 -- `session::first_step_over` meets its contract. Assumes nothing.
-use mathlib.Core.Path.{sym, ap, ◌∙◌}
-use Rattle.session.specs.declared.Wants.TheVariants.{Any}
+use mathlib.Core.Path.{sym, ◌∙◌}
+use Rattle.std.specs.Prelude.{None}
 use Rattle.session.specs.Tests.{unless}
 use Rattle.session.specs.Figures.{session_of}
-use Rattle.session.specs.Calls.{told, first_step_call}
+use Rattle.session.specs.Calls.{first_step_call}
 use Rattle.session.proofs.Tests.{passed_on}
 use Rattle.session.proofs.Laws.{first_step_passes, passed_sound}
 use Rattle.session.proofs.first_step_over.Goals as goal
@@ -14,7 +14,7 @@ returns-in_err-test_first_step c = rw (← c.test_first_step.ensures, c.in_err-t
 
 pub estimate_initial_step-requires : goal.estimate_initial_step-requires
 unfolding session_of
-estimate_initial_step-requires c = (passed_sound Any _ (first_step_passes _ _ (sym c.test_first_step.ensures ∙ c.in_ok-test_first_step.was))).small
+estimate_initial_step-requires c = (passed_sound None _ (first_step_passes _ _ (sym c.test_first_step.ensures ∙ c.in_ok-test_first_step.was))).small
 
 pub returns : goal.returns
 unfolding first_step_call unless session_of

@@ -6,10 +6,6 @@ pub returns-in-None : goal.returns-in-None
 unfolding good5
 returns-in-None c = rw c.in-None.is
 
-pub returns-in-Supplied : goal.returns-in-Supplied
+pub returns-in-Some : goal.returns-in-Some
 unfolding good5
-returns-in-Supplied c = rw (c.in-Supplied.is, c.step_ok.ensures)
-
-pub returns-in-Differenced : goal.returns-in-Differenced
-unfolding good5
-returns-in-Differenced c = rw (c.in-Differenced.is, c.step_ok-in-Differenced.ensures)
+returns-in-Some c = rw (c.in-Some.is, c.step_ok.ensures)

@@ -1,6 +1,6 @@
 -- `session::put_answer` meets its contract. Assumes nothing.
+use Rattle.std.specs.Prelude.{Some}
 use Rattle.session.proofs.Laws.{few_answers}
-use Rattle.session.specs.declared.Wants.TheVariants.{Only}
 use Rattle.session.specs.declared.Phase.TheVariants.{Asking}
 use Rattle.float.specs.Arith.{zero+}
 use native.Mathlib.Omega.{arith}
@@ -20,11 +20,11 @@ returns c =
     let long = c.requires.figures_len in
     let passed = c.requires.figures_value in
     let fit = c.slice_known-1.given in
-    let typed = typed_passed k x (Only Asking) passed (record { places = long; fit = fit }) in
+    let typed = typed_passed k x (Some Asking) passed (record { places = long; fit = fit }) in
     let early = few_answers (session_of k x) passed in
     let put = c.put.ensures ∙ ap (λ (n : ℕ). stores (λ i _. c.args.answer.now ! i) (answers_at + places * k.count) n x) c.told-answer in record {
       answered = put_answer_is k x long c.args.answer.now early c.told-answer _ c.put.ensures;
-      back = ap (stores (λ _ _. zero+) (answers_at + places * k.count) places) put ∙ taken_back k x long c.args.answer.now early typed fit (Only Asking) passed;
+      back = ap (stores (λ _ _. zero+) (answers_at + places * k.count) places) put ∙ taken_back k x long c.args.answer.now early typed fit (Some Asking) passed;
     }
 
 pub overflow_mul-count : goal.overflow_mul-count

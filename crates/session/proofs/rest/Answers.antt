@@ -1,15 +1,15 @@
 -- `session::rest` meets its contract. Assumes nothing.
+use Rattle.std.specs.Prelude.{None}
 use Rattle.float.specs.Arith.{zero+}
 use native.Mathlib.Omega.{arith}
 use lib.ListN.{length-set}
-use Rattle.session.specs.declared.Wants.TheVariants.{Any}
 use Rattle.session.specs.Figures.{session_of}
 use Rattle.session.proofs.Laws.{passed_sound}
 use Rattle.session.proofs.Writes.{typed_passed, rest_is, few, short}
 use Rattle.session.proofs.rest.Goals as goal
 
 pub used_jacobian-used-requires : goal.used_jacobian-used-requires
-used_jacobian-used-requires c = unfold session_of in (passed_sound Any _ c.requires.figures_value).small
+used_jacobian-used-requires c = unfold session_of in (passed_sound None _ c.requires.figures_value).small
 
 pub bounds-figures-1 : goal.bounds-figures-1
 bounds-figures-1 c = omega (arith, c.requires.figures_len)
@@ -21,7 +21,7 @@ wipe-requires c =
       arith,
       c.used_jacobian-used.ensures,
       c.requires.figures_len,
-      few _ _ c.requires.figures_len (typed_passed _ _ Any c.requires.figures_value
+      few _ _ c.requires.figures_len (typed_passed _ _ None c.requires.figures_value
           (record { places = c.requires.figures_len; fit = c.slice_known-1.given })) c.requires.figures_value,
     ))
 
@@ -29,7 +29,7 @@ pub overflow_mul-k : goal.overflow_mul-k
 overflow_mul-k c =
     omega (
       arith,
-      short _ _ c.requires.figures_len (typed_passed _ _ Any c.requires.figures_value
+      short _ _ c.requires.figures_len (typed_passed _ _ None c.requires.figures_value
           (record { places = c.requires.figures_len; fit = c.slice_known-1.given })) c.requires.figures_value,
     )
 
@@ -37,7 +37,7 @@ pub wipe-requires-2 : goal.wipe-requires-2
 wipe-requires-2 c =
     omega (
       arith,
-      short _ _ c.requires.figures_len (typed_passed _ _ Any c.requires.figures_value (record { places = c.requires.figures_len; fit = c.slice_known-1.given }))
+      short _ _ c.requires.figures_len (typed_passed _ _ None c.requires.figures_value (record { places = c.requires.figures_len; fit = c.slice_known-1.given }))
           c.requires.figures_value,
       c.wipe.auto.out,
       c.requires.figures_len,
@@ -49,6 +49,6 @@ shape_of-figures c = omega (arith, c.wipe.auto.out, c.wipe-2.auto.out, length-se
 
 pub returns : goal.returns
 returns c =
-    rest_is c.args.k c.args.figures.now c.requires.figures_len (typed_passed _ _ Any c.requires.figures_value
+    rest_is c.args.k c.args.figures.now c.requires.figures_len (typed_passed _ _ None c.requires.figures_value
     (record { places = c.requires.figures_len; fit = c.slice_known-1.given })) c.requires.figures_value
     c.used_jacobian-used.ensures c.wipe.ensures c.wipe-2.ensures

@@ -6,10 +6,6 @@ pub returns-in-None : goal.returns-in-None
 unfolding step_clear
 returns-in-None c = rw (c.in-None.is, c.plus_zero.ensures)
 
-pub returns-in-Supplied : goal.returns-in-Supplied
+pub returns-in-Some : goal.returns-in-Some
 unfolding step_clear
-returns-in-Supplied c = rw c.in-Supplied.is
-
-pub returns-in-Differenced : goal.returns-in-Differenced
-unfolding step_clear
-returns-in-Differenced c = rw c.in-Differenced.is
+returns-in-Some c = rw c.in-Some.is

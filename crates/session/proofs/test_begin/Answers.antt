@@ -1,8 +1,8 @@
 -- `session::test_begin` meets its contract. Assumes nothing.
+use Rattle.std.specs.Prelude.{Some}
 use Rattle.session.proofs.Tests.{passed_on}
 use mathlib.Core.Path.{sym, ◌∙◌}
 use Rattle.session.specs.declared.Phase.TheVariants.{Rest}
-use Rattle.session.specs.declared.Wants.TheVariants.{Only}
 use Rattle.session.specs.Calls.{begin_tests}
 use Rattle.session.specs.Figures.{session_of}
 use Rattle.session.proofs.Laws.{passed_sound, session_then, session_fails}
@@ -10,7 +10,7 @@ use Rattle.session.proofs.test_begin.Goals as goal
 
 pub test_attempt-requires : goal.test_attempt-requires
 unfolding session_of
-test_attempt-requires c = (passed_sound (Only Rest) _ (sym c.test_session.ensures ∙ c.in_ok-test_session.was)).small
+test_attempt-requires c = (passed_sound (Some Rest) _ (sym c.test_session.ensures ∙ c.in_ok-test_session.was)).small
 
 pub returns-in_err-test_session : goal.returns-in_err-test_session
 unfolding begin_tests session_of

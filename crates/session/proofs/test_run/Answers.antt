@@ -8,7 +8,7 @@ use borrow.Author.Tests.{not-false}
 use Rattle.session.specs.Session.{size_ok}
 use Rattle.session.proofs.Tests.{stops, holds_on, all_hold}
 use Rattle.session.proofs.Laws.{size_both}
-use Rattle.session.proofs.Opens.{opening, time_and_arrays, opened-good2, each_finite, true_not, false_not}
+use Rattle.session.proofs.Opens.{opening, time_and_arrays, opened-good2, each_finite}
 use Rattle.session.proofs.test_run.Goals as goal
 
 pub returns-then-not-n : goal.returns-then-not-n

@@ -1,11 +1,9 @@
 -- `session::tolerances_ok` meets its contract. Assumes nothing.
-use native.Mathlib.Omega.{arith}
+use Rattle.std.proofs.Common.{arith}
+use Rattle.loops.proofs.Stores.{all_first}
 use Rattle.session.specs.Session.{tolerances_ok}
 use Rattle.session.proofs.tolerances_ok.Goals as goal
 
-pub all_positive-requires : goal.all_positive-requires
-all_positive-requires c = omega arith
-
 pub returns : goal.returns
 unfolding tolerances_ok
-returns c = rw (c.positive.ensures, c.all_positive.ensures)
+returns c = rw (c.positive.ensures, c.all_positive.ensures, all_first _ c.args.absolute.now c.args.n (omega (arith, c.requires, c.told-absolute)))

@@ -1,21 +1,20 @@
 -- `session::used_jacobian` meets its contract. Assumes nothing.
 use native.Mathlib.Omega.{arith}
-use Rattle.session.specs.Session.{used_jacobian}
 use native.Mathlib.Nat.{mul-le-mul}
+use Rattle.session.specs.Session.{used_jacobian}
 use Rattle.session.proofs.used_jacobian.Goals as goal
 
 pub overflow_mul-result : goal.overflow_mul-result
-unfolding used_jacobian
 overflow_mul-result c = omega (arith, mul-le-mul c.requires c.requires)
 
-pub returns-in-None : goal.returns-in-None
+pub returns-in_default : goal.returns-in_default
 unfolding used_jacobian
-returns-in-None c = rw c.in-None.is
+returns-in_default c = rw c.in_default.is
 
-pub returns-in-Supplied : goal.returns-in-Supplied
+pub returns-in-Given : goal.returns-in-Given
 unfolding used_jacobian
-returns-in-Supplied c = rw c.in-Supplied.is
+returns-in-Given c = rw (c.in-Some.is, c.in-Given.is)
 
-pub returns-in-Differenced : goal.returns-in-Differenced
+pub returns-in-Difference : goal.returns-in-Difference
 unfolding used_jacobian
-returns-in-Differenced c = rw c.in-Differenced.is
+returns-in-Difference c = rw (c.in-Some.is, c.in-Difference.is)

@@ -4,17 +4,17 @@ use Rattle.session.specs.Session.{wanted}
 use Rattle.session.proofs.wanted.Goals as goal
 
 pub overflow_add-result : goal.overflow_add-result
-unfolding wanted
-overflow_add-result c = omega (arith, c.questions-in-Differenced.ensures.1)
+overflow_add-result c = omega (arith, c.questions-in-Difference.ensures.1)
 
-pub returns-in-None : goal.returns-in-None
+pub returns-in_default : goal.returns-in_default
 unfolding wanted
-returns-in-None c = (rw c.in-None.is, omega arith)
+returns-in_default c = (rw c.in_default.is, omega arith)
 
-pub returns-in-Supplied : goal.returns-in-Supplied
+pub returns-in-Given : goal.returns-in-Given
 unfolding wanted
-returns-in-Supplied c = (rw c.in-Supplied.is c.questions.ensures.0, omega (arith, c.questions.ensures.1))
+returns-in-Given c = (rw (c.in-Some.is, c.in-Given.is) c.questions.ensures.0, omega (arith, c.questions.ensures.1))
 
-pub returns-in-Differenced : goal.returns-in-Differenced
+pub returns-in-Difference : goal.returns-in-Difference
 unfolding wanted
-returns-in-Differenced c = (rw (c.in-Differenced.is, c.questions-in-Differenced.ensures.0), omega (arith, c.questions-in-Differenced.ensures.1))
+returns-in-Difference c =
+    (rw (c.in-Some.is, c.in-Difference.is, c.questions-in-Difference.ensures.0), omega (arith, c.questions-in-Difference.ensures.1))
