@@ -1,10 +1,10 @@
 -- Sums of numbers less themselves: each step of the test of a list. Assumes nothing.
-use Rattle.std.proofs.Common.{ℕ, zero, suc, ◌≡◌, refl, sym, ap, ◌∙◌, ◌+◌, ◌-◌, ◌*◌, ◌<◌, ◌≤◌, Bool, true, false, ◌&&◌, List, [], ◌∷◌, length, get_or, take, drop, fold, arith, length-drop}
+use Rattle.std.proofs.Common.{ℕ, zero, suc, ◌≡◌, refl, sym, ap, ◌∙◌, ◌+◌, ◌-◌, ◌*◌, ◌<◌, ◌≤◌, Bool, true, false, ◌&&◌, List, [], ◌∷◌, length, get_or, take, drop, fold, arith, length-drop, Float}
 use Rattle.std.proofs.Math.Nat.{add-zero, add-suc}
 use Rattle.std.proofs.lemmas.List.{drop-drop, get_or-take, get_or-drop}
 use Rattle.std.specs.Simd.{first_chunks}
-use mathlib.Core.Bool.{and_assoc, and-true}
-use lib.Ieee.{Float, eq}
+use Rattle.std.proofs.Math.Bool.{and_assoc, and-true}
+use Rattle.std.specs.Float.Ieee.{eq}
 use Rattle.loops.specs.Loop.{every, ◌!◌}
 use Rattle.loops.proofs.Loops.{every_none, every_step}
 use Rattle.float.specs.Arith.{◌⊕◌, ◌⊖◌, zero+, finite, mark}

@@ -1,14 +1,7 @@
 -- `root` of what a pattern reads as: by the pattern, as `sqrt` asks it. Assumes nothing.
-use mathlib.Core.Path.{◌≡◌, refl, sym, ap, ◌∙◌, subst}
-use Prim.Native.Nat.{ℕ, zero, suc, ◌+◌, ◌-◌, ◌*◌, ◌/◌, ◌%◌, ◌^◌, ◌≤◌, ◌<◌}
-use native.Mathlib.Nat.{mul-one, mul-pos}
-use native.Mathlib.Omega.{arith}
-use mathlib.Core.Bool.{Bool, true, false, not, cond}
-use lib.Dec.{T, leb, ltb, eqb, le→leb, ltb→lt, nltb→le}
-use lib.Pow.{pow_pos}
-use lib.Ieee.{Float, nan, inf, fin, binary64, odd, of_fields, of_bits, to_bits, is_nan, fits, ne, div}
+use Rattle.std.proofs.Common.{◌≡◌, refl, sym, ap, ◌∙◌, subst, ℕ, zero, suc, ◌+◌, ◌-◌, ◌*◌, ◌/◌, ◌%◌, ◌^◌, ◌≤◌, ◌<◌, mul-one, mul-pos, arith, Bool, true, false, not, cond, T, leb, ltb, eqb, le→leb, ltb→lt, nltb→le, pow_pos, Float}
+use Rattle.std.specs.Float.Ieee.{nan, inf, fin, binary64, odd, of_fields, of_bits, to_bits, is_nan, fits, ne}
 use lib.Ieee.Bits.{is_true, of_bits-to_bits, to_bits-lt, nan_bits_is, nan_bits_above}
-use lib.Ieee.Compare.{differs_from_itself}
 use lib.Ieee.Exact.{odd_sign}
 use Rattle.float.specs.Root.{root, nearest_root}
 use Rattle.float.specs.Digits.{squares_of}
@@ -32,14 +25,6 @@ unfolding ne is_nan
 no_nan nan h = absurd (subst T h tt)
 no_nan (inf s) h = tt
 no_nan (fin s m e) h = tt
-
-pub nan_pattern : (x : Float) → ne x x ≡ true → 0x7ff8_0000_0000_0000 ≡ to_bits binary64 x
-unfolding to_bits
-nan_pattern x h = ap (to_bits binary64) (sym (differs_from_itself x (subst T (sym h) tt)))
-
-pub zero_by_zero : div binary64 (of_bits binary64 0) (of_bits binary64 0) ≡ nan
-unfolding div of_bits of_fields odd
-zero_by_zero = refl
 
 pub nan_bits-nan : of_bits binary64 0x7ff8_0000_0000_0000 ≡ nan
 unfolding of_bits of_fields

@@ -1,14 +1,13 @@
 -- What the tests and branches of the float helpers say. Assumes nothing.
-use Rattle.std.proofs.Common.{ℕ, zero, suc, ◌+◌, ◌*◌, ◌<◌, ◌≡◌, refl, sym, ap, ◌∙◌, Bool, true, false, not, ◌&&◌, ◌||◌, arith}
-use mathlib.Core.Bool.{beq, false≢true, true≢false}
+use Rattle.std.proofs.Common.{ℕ, zero, suc, ◌*◌, ◌<◌, ◌≡◌, refl, sym, ap, ◌∙◌, Bool, true, false, not, ◌&&◌, ◌||◌, arith, Float, eqb-true, ne_eqb}
+use Rattle.std.proofs.Math.Bool.{beq, false≢true}
 use Rattle.std.proofs.Math.Nat.{mul-pos, zero-mul, pow-suc}
 use Rattle.std.proofs.Math.Dec.{T, eqb}
 use Rattle.std.proofs.Math.Pow.{pow_pos}
 use lib.Ieee.Fits.{up_pos}
 use Rattle.std.proofs.Math.IntN.{ℤ, pos, negsuc}
 use lib.Count.{count_trailing_zeros}
-use lib.Ieee.{Float, nan, inf, fin, binary64, lt, eq, neg, div, is_nan, fits, of_bits, of_fields, odd, up, down, level, to_bits, size, span, climb}
-use borrow.Author.Tests.{ltb-true, ltb-false, eqb-true, ne_eqb}
+use Rattle.std.specs.Float.Ieee.{nan, inf, fin, binary64, lt, eq, div, is_nan, fits, of_bits, of_fields, odd, up, down, level, to_bits, size, span, climb}
 use Rattle.loops.proofs.Bools.{both_true}
 use Rattle.float.specs.Arith.{◌⊘◌, zero+, one, finite, abs, larger, plus_zero}
 use Rattle.std.specs.Float.{float_is_finite}
@@ -39,14 +38,6 @@ unfolding float_is_finite finite
 finite_is nan = refl
 finite_is (inf s) = refl
 finite_is (fin s m e) = refl
-
-pub abs_neg : (x : Float) → lt x zero+ ≡ true → neg x ≡ abs x
-unfolding abs neg lt of_bits of_fields odd count_trailing_zeros
-abs_neg nan h = absurd (false≢true h)
-abs_neg (inf true) h = refl
-abs_neg (inf false) h = absurd (false≢true h)
-abs_neg (fin true m e) h = refl
-abs_neg (fin false m e) h = absurd (omega (arith, ltb-true (m * up e * 1) (0 * down e) h))
 
 pub zero_exponent : (e : ℤ) → up e * down e ≡ 1 → e ≡ pos 0
 zero_exponent (pos zero) h = refl
@@ -85,44 +76,6 @@ zero_pattern (fin s (suc m) e) f h = absurd (no_level s m e h)
 
 pub no_zero : (x : Float) → eq x zero+ ≡ false → false ≡ plus_zero x
 no_zero x h = rw h at (is_plus x)
-
-level_zero : (a b : ℕ) → a ≡ 0 → b ≡ 0 → level true a false b ≡ true
-level_zero a b h k = rw (h, k)
-
-pub abs_pos : (x : Float) → lt x zero+ ≡ false → eq x zero+ ≡ false → x ≡ abs x
-unfolding abs lt eq of_bits of_fields odd count_trailing_zeros
-abs_pos nan h k = refl
-abs_pos (inf true) h k = absurd (true≢false h)
-abs_pos (inf false) h k = refl
-abs_pos (fin false m e) h k = refl
-abs_pos (fin true m e) h k =
-    let z : m * up e * 1 ≡ 0 = omega (arith, ltb-false 0 (m * up e * 1 + 0 * down e) h) in
-    absurd (true≢false (sym (level_zero (m * up e * 1) (0 * down e) z (omega arith)) ∙ k))
-
--- the two steps of `abs`: y is x without a minus sign, and a zero is +0.0
-neg_some : (x : Float) → lt x zero+ ≡ true → eq (neg x) zero+ ≡ true → ⊥
-unfolding neg lt eq of_bits of_fields odd count_trailing_zeros
-neg_some nan h k = false≢true h
-neg_some (inf true) h k = false≢true k
-neg_some (inf false) h k = false≢true h
-neg_some (fin true m e) h k =
-    let l : 0 < m * up e * 1 + 0 * down e = ltb-true 0 (m * up e * 1 + 0 * down e) h in
-    let z : m * up e * 1 ≡ 0 * down e = eqb-true (m * up e * 1) (0 * down e) (both_true (eqb (m * up e * 1) (0 * down e)) (beq false false || eqb (m * up e * 1) 0) k).0 in
-    omega arith
-neg_some (fin false m e) h k = omega (arith, ltb-true (m * up e * 1) (0 * down e) h)
-
-module _ (x y : Float) where
-  pub zero-neg : lt x zero+ ≡ true → y ≡ neg x → eq y zero+ ≡ true → zero+ ≡ abs x
-  zero-neg h e k = absurd (neg_some x h (rw e at k))
-
-  pub zero_pos : fits binary64 x ≡ true → y ≡ x → eq y zero+ ≡ true → zero+ ≡ abs x
-  zero_pos f e k = abs-zero x f (rw e at k)
-
-  pub some_neg : lt x zero+ ≡ true → y ≡ neg x → y ≡ abs x
-  some_neg h e = e ∙ abs_neg x h
-
-  pub some_pos : lt x zero+ ≡ false → y ≡ x → eq y zero+ ≡ false → y ≡ abs x
-  some_pos h e k = e ∙ abs_pos x h (rw e at k)
 
 -- the larger of two, of which the first is a NaN
 pub larger-nan : (x y : Float) → is_nan x ≡ true → y ≡ larger x y

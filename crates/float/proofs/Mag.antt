@@ -1,12 +1,9 @@
 -- The magnitude of a finite value in units of the format's smallest, and what add, mul and div do to it: one rounding each, so long as nothing overflows.
 -- Assumes nothing.
-use mathlib.Core.Path.{◌≡◌, sym, ap, ◌∙◌, subst}
-use Prim.Native.Nat.{ℕ, ◌+◌, ◌-◌, ◌*◌, ◌/◌, ◌^◌, ◌≤◌, ◌<◌}
-use native.Mathlib.Nat.{lt_of_mul-lt-mul_right, add-mul, mul-one, mul_comm, mul_assoc, mul_left_comm, mul_right_comm, mul-mul-mul_comm, mul-sub, mul-le-mul_right, mul-le-mul_left}
-use native.Mathlib.Nat.{le_of_mul-le-mul_right, div-eq_of_eq-mul_left}
-use native.Mathlib.Omega.{arith}
-use mathlib.Core.Bool.{Bool}
-use lib.Ieee.{Float, nan, inf, fin, Format, low, up, down}
+use Rattle.std.proofs.Common.{◌≡◌, sym, ap, ◌∙◌, subst, ℕ, ◌+◌, ◌-◌, ◌*◌, ◌/◌, ◌^◌, ◌≤◌, ◌<◌, lt_of_mul-lt-mul_right, add-mul, mul-one, mul_comm, mul_assoc, mul_left_comm, mul_right_comm, mul-le-mul_right, mul-le-mul_left, le_of_mul-le-mul_right, arith, Bool, Float}
+use Rattle.std.proofs.Math.Nat.{mul-mul-mul_comm, mul-sub}
+use Rattle.std.proofs.Math.Nat.{div-eq_of_eq-mul_left}
+use Rattle.std.specs.Float.Ieee.{nan, inf, fin, Format, low, up, down}
 use lib.Ieee.Digits.{Equals}
 use lib.Ieee.Fits.{down_pos}
 use lib.Ieee.Exact.{HasValue}

@@ -1,15 +1,10 @@
 -- A finite number less itself is +0.0, and anything else less itself a NaN; sums of such differences. Assumes nothing.
-use Prim.Native.Nat.{ℕ, ◌*◌, ◌<◌}
-use mathlib.Core.Path.{◌≡◌, refl, sym, ◌∙◌}
-use mathlib.Core.Bool.{Bool, true, false, not, ◌&&◌}
-use native.Mathlib.Nat.{zero-mul, mul-pos, sub_self}
-use native.Mathlib.Omega.{arith}
-use lib.Pow.{pow_pos}
+use Rattle.std.proofs.Common.{ℕ, ◌*◌, ◌<◌, ◌≡◌, refl, sym, ◌∙◌, Bool, true, false, not, ◌&&◌, zero-mul, mul-pos, arith, pow_pos, Float, le-ltb}
+use Rattle.std.proofs.Math.Nat.{sub_self}
 use lib.Count.{count_trailing_zeros}
-use lib.Ieee.{Float, nan, inf, fin, binary64, up, down, add, sub, neg, sum, round, units, size, span, climb, eq, of_bits, of_fields, odd}
+use Rattle.std.specs.Float.Ieee.{nan, inf, fin, binary64, up, down, add, sub, neg, sum, round, units, size, span, climb, eq, of_bits, of_fields, odd}
 use lib.Ieee.Fits.{down_pos}
 use lib.Ieee.Scale.{round_same}
-use borrow.Author.Tests.{le-ltb}
 use Rattle.float.specs.Arith.{◌⊕◌, ◌⊖◌, zero+, finite, mark}
 
 -- nothing, rounded

@@ -1,15 +1,9 @@
 -- Where q is the whole part of a number's root, to 53 digits, the remainder tells `nearest_root`. And what `root` gives, by what number its argument is. Assumes nothing.
-use mathlib.Core.Path.{◌≡◌, refl, sym, ap, ◌∙◌, subst}
-use Prim.Native.Nat.{ℕ, zero, suc, ◌+◌, ◌-◌, ◌*◌, ◌/◌, ◌^◌, ◌≤◌, ◌<◌, compare, Ordering}
-use native.Mathlib.Nat.{le_trans, le_of_eq, le_of_lt, lt_of_lt_of_le, lt_of_le_of_lt, lt_irrefl, mul_assoc, mul_right_comm, mul-pos, mul-le-mul_right, mul-lt-mul_of_pos_right}
-use native.Mathlib.Nat.{mul-div_cancel, zero-mul, pow-le-pow_left, div-eq_of_lt-le}
-use native.Mathlib.Numerals.{add-one}
-use native.Mathlib.Omega.{arith}
-use mathlib.Core.Bool.{Bool, true, false, not, cond}
-use lib.IntN.{ℤ}
-use lib.Dec.{T, ltb, is_le, compare_is_eq, ltb→lt, nltb→le, le→leb, eqb→eq, leb→le, lit≤}
-use lib.Pow.{pow-add, pow_pos}
-use lib.Ieee.{Float, nan, inf, fin, Format, binary64, low, up, down, size, nearest, odd}
+use Rattle.std.proofs.Common.{◌≡◌, refl, sym, ap, ◌∙◌, subst, ℕ, zero, suc, ◌+◌, ◌-◌, ◌*◌, ◌/◌, ◌^◌, ◌≤◌, ◌<◌, le_trans, le_of_eq, le_of_lt, lt_of_lt_of_le, lt_of_le_of_lt, lt_irrefl, mul_assoc, mul_right_comm, mul-pos, mul-le-mul_right, mul-lt-mul_of_pos_right, mul-div_cancel, zero-mul, add-one, arith, Bool, true, false, not, cond, ℤ, T, ltb, ltb→lt, nltb→le, le→leb, eqb→eq, leb→le, lit≤, pow-add, pow_pos, Float}
+use Prim.Native.Nat.{compare, Ordering}
+use Rattle.std.proofs.Math.Nat.{pow-le-pow_left, div-eq_of_lt-le}
+use Rattle.std.proofs.Math.Dec.{is_le, compare_is_eq}
+use Rattle.std.specs.Float.Ieee.{nan, inf, fin, Format, binary64, low, up, down, size, nearest, odd}
 use lib.Ieee.Digits.{size-lt, size-le}
 use lib.Ieee.Fits.{down_pos}
 use lib.Ieee.Exact.{HasValue}

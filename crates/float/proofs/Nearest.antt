@@ -1,14 +1,7 @@
 -- Of all doubles the root is nearest to the exact root, and it is the only one that is. Of two doubles of a and c units the exact root √n lies nearer to the larger one just where
 -- (a + c) / 2 is below it: where the square of a + c is below 4 * n. Assumes nothing.
-use mathlib.Core.Path.{◌≡◌, sym, ap, ◌∙◌, subst}
-use Prim.Native.Nat.{ℕ, zero, suc, ◌+◌, ◌-◌, ◌*◌, ◌/◌, ◌%◌, ◌^◌, ◌≤◌, ◌<◌}
-use native.Mathlib.Nat.{zero-mul, zero-lt-suc, le_of_suc-le-suc, add_comm, le_refl, le_trans, le_of_eq, le_of_lt, le_antisymm, lt_of_lt_of_le, lt_of_le_of_lt, lt_of_not-le, lt_trans}
-use native.Mathlib.Nat.{lt_irrefl, add-mul, add-le-add, mul-add, mul_comm, mul_assoc, mul-le-mul_right, mul-pos, mul-div_cancel, mod-lt, lt_of_mul-lt-mul_right, sub-add_cancel}
-use native.Mathlib.Omega.{arith}
-use mathlib.Core.Bool.{Bool, true, false, not, cond}
-use lib.Dec.{T, leb, ltb, eqb, ltb→lt, lt→ltb, nltb→le, lit≤}
-use lib.Pow.{pow-add, pow_pos, pow_mono, shl_lt}
-use lib.Ieee.{Float, nan, inf, fin, binary64, up, down, size, odd, fits, of_fields, of_bits, to_bits}
+use Rattle.std.proofs.Common.{◌≡◌, sym, ap, ◌∙◌, subst, ℕ, zero, suc, ◌+◌, ◌-◌, ◌*◌, ◌/◌, ◌%◌, ◌^◌, ◌≤◌, ◌<◌, zero-mul, zero-lt-suc, le_of_suc-le-suc, add_comm, le_refl, le_trans, le_of_eq, le_of_lt, le_antisymm, lt_of_lt_of_le, lt_of_le_of_lt, lt_of_not-le, lt_trans, lt_irrefl, add-mul, add-le-add, mul-add, mul_comm, mul_assoc, mul-le-mul_right, mul-pos, mul-div_cancel, mod-lt, lt_of_mul-lt-mul_right, sub-add_cancel, arith, Bool, true, false, not, cond, T, leb, ltb, eqb, ltb→lt, lt→ltb, nltb→le, lit≤, pow-add, pow_pos, pow_mono, shl_lt, Float}
+use Rattle.std.specs.Float.Ieee.{nan, inf, fin, binary64, up, down, size, odd, fits, of_fields, of_bits, to_bits}
 use lib.Ieee.Bits.{of_bits-to_bits}
 use lib.Ieee.Fits.{down_pos, odd-fits}
 use lib.Ieee.Exact.{HasValue, odd_sign}

@@ -1,12 +1,8 @@
 -- The order of doubles that are no NaN, and what is never a NaN. Assumes nothing.
-use Prim.Native.Nat.{ℕ, zero, suc, ◌+◌, ◌*◌, ◌<◌, ◌≤◌}
-use mathlib.Core.Path.{◌≡◌, refl, sym}
-use mathlib.Core.Bool.{Bool, true, false, cond, ◌&&◌, ◌||◌, beq, true≢false, false≢true}
-use native.Mathlib.Decide.{dec_lt}
-use native.Mathlib.Omega.{arith}
-use lib.Dec.{eqb, ltb}
-use lib.Ieee.{Float, nan, inf, fin, up, down, below, level, lt, eq, le, is_nan, of_bits, of_fields, odd}
-use borrow.Author.Tests.{ltb-true, ltb-false, lt-ltb, eqb-true, eq-eqb}
+use Rattle.std.proofs.Common.{ℕ, zero, suc, ◌+◌, ◌*◌, ◌<◌, ◌≤◌, ◌≡◌, refl, sym, Bool, true, false, cond, ◌&&◌, ◌||◌, true≢false, arith, eqb, ltb, Float, ltb-true, ltb-false, lt-ltb, eqb-true, eq-eqb}
+use Rattle.std.proofs.Math.Bool.{beq, false≢true}
+use Rattle.std.proofs.Math.Decide.{dec_lt}
+use Rattle.std.specs.Float.Ieee.{nan, inf, fin, up, down, below, level, lt, eq, le, is_nan, of_bits, of_fields, odd}
 use Rattle.loops.proofs.Bools.{both_true, and_both, or_second, or_case}
 use Rattle.float.specs.Arith.{zero+, one, epsilon, larger, most}
 

@@ -1,14 +1,7 @@
 -- What is no NaN, and has no minus sign, through one operation, a sum and a root. Assumes nothing.
-use Prim.Native.Nat.{ℕ, zero, suc, ◌+◌, ◌-◌, ◌*◌, ◌/◌, ◌%◌, ◌^◌, ◌≤◌, ◌<◌, compare}
-use mathlib.Core.Path.{◌≡◌, refl, sym, ap, ◌∙◌, subst}
-use mathlib.Core.Bool.{Bool, true, false, not, cond, ◌&&◌, true≢false}
-use native.Mathlib.Nat.{lt_of_lt_of_le, le_trans, le_of_eq, mul-pos, mul-one, mul_comm, mul-le-mul_right, mul-le-mul, zero-lt-suc, one-mul}
-use native.Mathlib.Omega.{arith}
-use lib.Dec.{T, eqb, ltb, leb, leb→le, lit≤}
-use lib.Pow.{pow_pos, shl_lt}
-use borrow.Author.Tests.{ne_eqb}
-use lib.IntN.{ℤ, pos}
-use lib.Ieee.{Float, nan, inf, fin, binary64, prec, emax, low, up, down, unlike, size, nearest, odd, units, round, sum, add, mul, div, of_int, is_nan, fits, lt, of_bits, of_fields}
+use Rattle.std.proofs.Common.{ℕ, zero, suc, ◌+◌, ◌-◌, ◌*◌, ◌/◌, ◌%◌, ◌^◌, ◌≤◌, ◌<◌, ◌≡◌, refl, sym, ap, ◌∙◌, subst, Bool, true, false, not, cond, ◌&&◌, true≢false, lt_of_lt_of_le, le_trans, le_of_eq, mul-pos, mul-one, mul_comm, mul-le-mul_right, mul-le-mul, zero-lt-suc, one-mul, arith, T, eqb, ltb, leb, leb→le, lit≤, pow_pos, shl_lt, ne_eqb, ℤ, pos, Float}
+use Prim.Native.Nat.{compare}
+use Rattle.std.specs.Float.Ieee.{nan, inf, fin, binary64, prec, emax, low, up, down, unlike, size, nearest, odd, units, round, sum, add, mul, div, of_int, is_nan, fits, lt, of_bits, of_fields}
 use lib.Ieee.Fits.{down_pos, up_pos, and_l, and_r}
 use lib.Ieee.Exact.{HasValue, round_exact}
 use lib.Ieee.Order.{round_mono}

@@ -1,10 +1,7 @@
 -- Roots worked out through the definition alone: 4, 2, the ends of the subnormals and of the normals, 0.1, the double below 1, the zeros and the infinity. Assumes nothing.
-use mathlib.Core.Path.{◌≡◌, refl}
-use mathlib.Core.List.{[], ◌∷◌, map}
-use Prim.Native.Nat.{ℕ, ◌+◌, ◌-◌, ◌*◌, ◌^◌, ◌<◌}
-use lib.Dec.{lit<}
+use Rattle.std.proofs.Common.{◌≡◌, refl, [], ◌∷◌, map, ℕ, ◌+◌, ◌-◌, ◌*◌, ◌^◌, ◌<◌, lit<}
 use lib.Count.{count_trailing_zeros}
-use lib.Ieee.{nan, binary64, span, climb, size, odd, of_fields, of_bits, to_bits}
+use Rattle.std.specs.Float.Ieee.{nan, binary64, span, climb, size, odd, of_fields, of_bits, to_bits}
 use Rattle.float.specs.Root.{square, root, nearest_root, floor_root}
 use Rattle.float.specs.Root.{in_squares}
 

@@ -1,18 +1,10 @@
 -- The laws of the square root at binary64, for every double that is above zero and finite: its root is enclosed, it is the double nearest to the exact root, and the only one; it fits, and it
 -- is no subnormal. And the root of any double fits. Assumes nothing.
-use mathlib.Core.Path.{◌≡◌, refl, sym, ap, ◌∙◌, subst}
-use Prim.Native.Nat.{ℕ, zero, suc, ◌+◌, ◌-◌, ◌*◌, ◌/◌, ◌%◌, ◌^◌, ◌≤◌, ◌<◌}
-use native.Mathlib.Decide.{dec_le}
-use native.Mathlib.Nat.{le_trans, le_of_eq, le_antisymm, le_of_mul-le-mul_right, mul-le-mul_left, mul_assoc, mul_comm, sub-add_cancel, pow-suc, zero-lt-suc, lt_of_lt_of_le, lt_of_not-le}
-use native.Mathlib.Nat.{mul-one, mul-le-mul, pow-le-pow_left, eq-zero-or-pos, add-sub_of_le}
-use native.Mathlib.Omega.{arith}
-use mathlib.Core.Logic.{⊎_elim, inl, inr}
-use mathlib.Core.Bool.{Bool, true, false, not, cond}
-use lib.Dec.{T, leb, ltb, eqb, ltb→lt, lt→ltb, nltb→le, le→leb, lit≤}
+use Rattle.std.proofs.Common.{◌≡◌, refl, sym, ap, ◌∙◌, subst, ℕ, zero, suc, ◌+◌, ◌-◌, ◌*◌, ◌/◌, ◌%◌, ◌^◌, ◌≤◌, ◌<◌, le_trans, le_of_eq, le_antisymm, le_of_mul-le-mul_right, mul-le-mul_left, mul_assoc, mul_comm, sub-add_cancel, pow-suc, zero-lt-suc, lt_of_lt_of_le, lt_of_not-le, mul-one, mul-le-mul, eq-zero-or-pos, add-sub_of_le, arith, ⊎_elim, inl, inr, Bool, true, false, not, cond, T, leb, ltb, eqb, ltb→lt, lt→ltb, nltb→le, le→leb, lit≤, pow-add, pow_pos, ℤ, Float}
+use Rattle.std.proofs.Math.Decide.{dec_le}
+use Rattle.std.proofs.Math.Nat.{pow-le-pow_left}
 use lib.Count.{count_leading_zeros}
-use lib.Pow.{pow-add, pow_pos}
-use lib.IntN.{ℤ}
-use lib.Ieee.{Float, nan, inf, fin, binary64, size, odd, fits, of_fields, of_bits, to_bits}
+use Rattle.std.specs.Float.Ieee.{nan, inf, fin, binary64, size, odd, fits, of_fields, of_bits, to_bits}
 use lib.Ieee.Bits.{is_true, of_bits-to_bits, to_bits-lt}
 use lib.Ieee.Digits.{size-lt}
 use lib.Ieee.Fits.{nan-fits, inf-fits}

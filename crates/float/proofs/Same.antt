@@ -1,15 +1,9 @@
 -- A double is known by its sign and its magnitude, so +0.0 added to one that has no minus sign leaves it as it is. Assumes nothing.
-use Prim.Native.Nat.{ℕ, zero, suc, ◌+◌, ◌-◌, ◌*◌, ◌/◌, ◌%◌, ◌^◌, ◌≤◌, ◌<◌}
-use mathlib.Core.Path.{◌≡◌, refl, sym, ap, ◌∙◌}
-use mathlib.Core.Bool.{Bool, true, false, cond, ◌&&◌, true≢false}
-use native.Mathlib.Nat.{mul-one, mul_assoc, mul_right_comm, zero-mul, add-zero, add-suc, add_comm, not-le_of_lt}
-use native.Mathlib.Omega.{arith}
-use lib.Dec.{T, eqb, ltb, leb, eqb→eq, ltb→lt, leb→le}
-use native.Mathlib.Decide.{dec_lt}
-use lib.Pow.{pow-add, pow-lt, shl_lt}
+use Rattle.std.proofs.Common.{ℕ, zero, suc, ◌+◌, ◌-◌, ◌*◌, ◌/◌, ◌%◌, ◌^◌, ◌≤◌, ◌<◌, ◌≡◌, refl, sym, ap, ◌∙◌, Bool, true, false, cond, ◌&&◌, true≢false, mul-one, mul_assoc, mul_right_comm, zero-mul, add-zero, add-suc, add_comm, not-le_of_lt, arith, T, eqb, ltb, leb, eqb→eq, ltb→lt, leb→le, pow-add, shl_lt, ℤ, pos, negsuc, Float}
+use Rattle.std.proofs.Math.Decide.{dec_lt}
+use Rattle.std.proofs.Math.Pow.{pow-lt}
 use lib.Count.{count_trailing_zeros}
-use lib.IntN.{ℤ, pos, negsuc}
-use lib.Ieee.{Float, nan, inf, fin, binary64, prec, emax, low, top, hid, up, down, size, span, climb, units, round, sum, add, fits, of_bits, of_fields, odd, to_bits}
+use Rattle.std.specs.Float.Ieee.{nan, inf, fin, binary64, prec, emax, low, top, hid, up, down, size, span, climb, units, round, sum, add, fits, of_bits, of_fields, odd, to_bits}
 use lib.Ieee.Bits.{of_bits-to_bits}
 use lib.Ieee.Exact.{HasValue, round_exact}
 use lib.Ieee.Fits.{down_pos, round-fits, add-fits, and_l, and_r}

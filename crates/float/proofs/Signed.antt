@@ -1,12 +1,6 @@
 -- Values with their signs, in units: a value is `plus x` - `minus x`, of which one is 0. What one rounding of a sum, product or quotient can change. Assumes nothing.
-use mathlib.Core.Path.{◌≡◌, refl, sym, ap, ◌∙◌, subst}
-use Prim.Native.Nat.{ℕ, suc, ◌+◌, ◌-◌, ◌*◌, ◌^◌, ◌≤◌, ◌<◌}
-use native.Mathlib.Nat.{le_trans, le_of_eq, le_of_lt, le_refl, add-mul, mul-one, mul_comm, mul-le-mul_right, le_of_mul-le-mul_right, mul-pos, one-mul}
-use native.Mathlib.Omega.{arith}
-use mathlib.Core.Bool.{Bool, true, false, not, cond}
-use lib.Dec.{T, eqb, ltb, eqb→eq, ltb→lt, nltb→le}
-use lib.Pow.{pow-add, pow_pos}
-use lib.Ieee.{Float, nan, inf, fin, Format, prec, emax, low, up, down, unlike, round, sum, add, mul, div}
+use Rattle.std.proofs.Common.{◌≡◌, refl, sym, ap, ◌∙◌, subst, ℕ, suc, ◌+◌, ◌-◌, ◌*◌, ◌^◌, ◌≤◌, ◌<◌, le_trans, le_of_eq, le_of_lt, le_refl, add-mul, mul-one, mul_comm, mul-le-mul_right, le_of_mul-le-mul_right, mul-pos, one-mul, arith, Bool, true, false, not, cond, T, eqb, ltb, eqb→eq, ltb→lt, nltb→le, pow-add, pow_pos, Float}
+use Rattle.std.specs.Float.Ieee.{nan, inf, fin, Format, prec, emax, low, up, down, unlike, round, sum, add, mul, div}
 use lib.Ieee.Digits.{Equals}
 use lib.Ieee.Fits.{down_pos, up_pos, round_is}
 use lib.Ieee.Exact.{HasValue, units_val}

@@ -1,7 +1,6 @@
 -- The sign of a product: turned where just one of two signs is. Assumes nothing.
-use mathlib.Core.Path.{◌≡◌, refl}
-use mathlib.Core.Bool.{Bool, true, false, not}
-use lib.Ieee.{unlike}
+use Rattle.std.proofs.Common.{◌≡◌, refl, Bool, true, false, not}
+use Rattle.std.specs.Float.Ieee.{unlike}
 
 -- signs may be taken in any order
 pub unlike_mix : (s t u v : Bool) → unlike (unlike s t) (unlike u v) ≡ unlike (unlike s u) (unlike t v)

@@ -1,12 +1,7 @@
 -- Squares of whole numbers, and the whole part of a root. Assumes nothing.
-use mathlib.Core.Path.{◌≡◌, ap, ◌∙◌, subst}
-use Prim.Native.Nat.{ℕ, zero, suc, ◌+◌, ◌*◌, ◌/◌, ◌^◌, ◌≤◌, ◌<◌}
-use native.Mathlib.Nat.{le_of_suc-le-suc, lt_of_le_of_lt, lt_of_not-le, not-le_of_lt, zero-lt-suc, suc-mul, mul-suc, mul-le-mul, mul-mul-mul_comm, pow-suc, div-lt_iff_lt-mul}
-use native.Mathlib.Nat.{lt_of_lt_of_le, lt_irrefl}
-use native.Mathlib.Omega.{arith}
-use mathlib.Core.Bool.{Bool, true, false, not, cond}
-use lib.Pow.{pow_mono}
-use lib.Dec.{T, leb, leb→le, nleb→lt}
+use Rattle.std.proofs.Common.{◌≡◌, ap, ◌∙◌, subst, ℕ, zero, suc, ◌+◌, ◌*◌, ◌/◌, ◌^◌, ◌≤◌, ◌<◌, le_of_suc-le-suc, lt_of_le_of_lt, lt_of_not-le, not-le_of_lt, zero-lt-suc, suc-mul, mul-suc, mul-le-mul, pow-suc, div-lt_iff_lt-mul, lt_of_lt_of_le, lt_irrefl, arith, Bool, true, false, not, cond, pow_mono, T, leb, leb→le}
+use Rattle.std.proofs.Math.Nat.{mul-mul-mul_comm}
+use Rattle.std.proofs.Math.Dec.{nleb→lt}
 use Rattle.float.specs.Root.{square, floor_root}
 
 -- powers of two are in the order of their exponents

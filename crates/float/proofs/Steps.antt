@@ -1,14 +1,8 @@
 -- What the steps of the root hand on, and that each step does: one digit of a root, all of them, and an even power of two. Assumes nothing.
-use mathlib.Core.Path.{◌≡◌, sym, ap, ◌∙◌, subst}
-use mathlib.Core.Bool.{Bool, cond}
-use Prim.Native.Nat.{ℕ, suc, ◌+◌, ◌-◌, ◌*◌, ◌/◌, ◌%◌, ◌^◌, ◌≤◌, ◌<◌}
-use native.Mathlib.Nat.{le_trans, le_of_eq, le_of_suc-le-suc, lt_of_lt_of_le, lt_of_le_of_lt, add-sub_of_le, mul_comm, mul_assoc, mul-le-mul_right, mul-le-mul_left}
-use native.Mathlib.Nat.{mul-lt-mul_of_pos_right, pow-le-pow_right, mod-eq_of_lt, div-eq_of_lt, div-one, div-le_self}
-use native.Mathlib.Omega.{arith}
-use lib.Dec.{ltb, lt→ltb, lit≤}
-use lib.Arith.{le→nltb}
+use Rattle.std.proofs.Common.{◌≡◌, sym, ap, ◌∙◌, subst, Bool, cond, ℕ, suc, ◌+◌, ◌-◌, ◌*◌, ◌/◌, ◌%◌, ◌^◌, ◌≤◌, ◌<◌, le_trans, le_of_eq, le_of_suc-le-suc, lt_of_lt_of_le, lt_of_le_of_lt, add-sub_of_le, mul_comm, mul_assoc, mul-le-mul_right, mul-le-mul_left, mul-lt-mul_of_pos_right, mod-eq_of_lt, div-one, div-le_self, arith, ltb, lt→ltb, lit≤, pow-add, shl_lt, shr-shr}
+use Rattle.std.proofs.Math.Nat.{pow-le-pow_right, div-eq_of_lt}
+use Rattle.std.proofs.Math.Arith.{le→nltb}
 use lib.Count.{count_leading_zeros, leading_top}
-use lib.Pow.{pow-add, shl_lt, shr-shr}
 use lib.Ieee.Bits.{is_true, is_false}
 use Rattle.float.specs.Root.{square}
 use Rattle.float.specs.Digits.{Rooted, Split, Halved, units_of, squares_of}

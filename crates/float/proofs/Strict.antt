@@ -1,13 +1,7 @@
 -- The rounded root is enclosed by the squares of the points midway to the doubles next to it. With q its 53 digits and k the power that goes with them, these are (2 * q - 1) * 2 ^ k / 2 and
 -- (2 * q + 1) * 2 ^ k / 2. At the least q the double below is only half as far, so there the point below is (4 * q - 1) * 2 ^ k / 4. There is no tie. Assumes nothing.
-use mathlib.Core.Path.{◌≡◌, sym, ap, ◌∙◌, subst}
-use Prim.Native.Nat.{ℕ, zero, suc, ◌+◌, ◌-◌, ◌*◌, ◌^◌, ◌≤◌, ◌<◌}
-use native.Mathlib.Nat.{le_of_eq, lt_of_lt_of_le, lt_of_le_of_lt, lt_of_not-le, mul_assoc, mul-pos, mul-lt-mul_of_pos_right, add-sub_of_le}
-use native.Mathlib.Omega.{arith}
-use mathlib.Core.Bool.{Bool, true, false, not, cond}
-use lib.Dec.{T, ltb, ltb→lt, nltb→le, lit≤}
-use lib.Pow.{pow-add, pow_pos}
-use lib.Ieee.{binary64, odd}
+use Rattle.std.proofs.Common.{◌≡◌, sym, ap, ◌∙◌, subst, ℕ, zero, suc, ◌+◌, ◌-◌, ◌*◌, ◌^◌, ◌≤◌, ◌<◌, le_of_eq, lt_of_lt_of_le, lt_of_le_of_lt, lt_of_not-le, mul_assoc, mul-pos, mul-lt-mul_of_pos_right, add-sub_of_le, arith, Bool, true, false, not, cond, T, ltb, ltb→lt, nltb→le, lit≤, pow-add, pow_pos}
+use Rattle.std.specs.Float.Ieee.{binary64, odd}
 use Rattle.float.specs.Root.{square, nearest_root}
 use Rattle.float.proofs.Square.{square-suc, square_odd, square-mul}
 use Rattle.float.specs.Digits.{Rooted, Split, Halved}

@@ -1,9 +1,8 @@
 -- The three steps of a loop that sums from its first item, and of one that keeps the largest. Assumes nothing.
-use Rattle.std.proofs.Common.{ℕ, zero, suc, ◌+◌, ◌≤◌, ◌<◌, ◌≡◌, refl, List, [], ◌∷◌, length, drop, fold, arith}
+use Rattle.std.proofs.Common.{ℕ, zero, suc, ◌+◌, ◌≤◌, ◌<◌, ◌≡◌, refl, List, [], ◌∷◌, length, drop, fold, arith, Float}
 use Rattle.std.proofs.Math.Numerals.{add-one}
 use Rattle.std.proofs.Math.Nat.{not-suc-le-zero, add-zero, zero-add, add-suc, suc-add}
 use Rattle.loops.specs.Loop.{◌!◌}
-use lib.Ieee.{Float}
 use Rattle.float.specs.Arith.{◌⊕◌, larger, sum_of, most}
 
 pub sum_first : (f : ℕ → Float) (x : Float) → x ≡ f 0 → x ≡ sum_of 1 f
@@ -19,7 +18,7 @@ pub sum_end : (f : ℕ → Float) (k n : ℕ) (x : Float) → x ≡ sum_of k f �
 sum_end f k n x e h = rw (← h) e
 
 -- a sum of a list, from its first item on
-fold_sum : (f : Float → Float) (g : ℕ → Float) (k : ℕ) (xs : List Float) → ((j : ℕ) → j < length xs → f (xs ! j) ≡ g (suc (k + j)))
+pub fold_sum : (f : Float → Float) (g : ℕ → Float) (k : ℕ) (xs : List Float) → ((j : ℕ) → j < length xs → f (xs ! j) ≡ g (suc (k + j)))
     → fold (λ s x. s ⊕ f x) (sum_of (suc k) g) xs ≡ sum_of (suc (k + length xs)) g
 unfolding sum_of
 fold_sum f g k [] h = rw add-zero

@@ -1,9 +1,5 @@
 -- Sums of n numbers. Assumes nothing.
-use mathlib.Core.Path.{◌≡◌, refl, sym, ap, ◌∙◌, subst}
-use mathlib.Core.Logic.{inl, inr}
-use Prim.Native.Nat.{ℕ, zero, suc, ◌+◌, ◌*◌, ◌≤◌, ◌<◌, zero-le}
-use native.Mathlib.Nat.{le_refl, le_of_eq, add-le-add, not-le_of_lt, eq-or-lt_of_le, zero-mul, suc-mul, mul-zero, mul-add}
-use native.Mathlib.Omega.{arith}
+use Rattle.std.proofs.Common.{◌≡◌, refl, sym, ap, ◌∙◌, subst, inl, inr, ℕ, zero, suc, ◌+◌, ◌*◌, ◌≤◌, ◌<◌, zero-le, le_refl, le_of_eq, add-le-add, not-le_of_lt, eq-or-lt_of_le, zero-mul, suc-mul, mul-zero, mul-add, arith}
 
 -- f 0 + f 1 + .., n of them
 unfoldable pub total : ℕ → (ℕ → ℕ) → ℕ

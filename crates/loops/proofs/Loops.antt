@@ -1,11 +1,10 @@
 -- The three steps of a loop's invariant, for each shape of loop: no turn yet, one turn more, and the end. Assumes nothing.
-use Rattle.std.proofs.Common.{ℕ, zero, suc, ◌+◌, ◌-◌, ◌≤◌, ◌<◌, ◌≡◌, refl, sym, ap, ◌∙◌, Bool, true, false, ◌&&◌, ◌≢◌, List, [], ◌∷◌, ◌++◌, arith, get_or, length, drop}
-use mathlib.Core.Bool.{and-true}
-use mathlib.Core.List.{append-nil}
+use Rattle.std.proofs.Common.{ℕ, zero, suc, ◌+◌, ◌-◌, ◌≤◌, ◌<◌, ◌≡◌, refl, sym, ap, ◌∙◌, Bool, true, false, ◌&&◌, ◌≢◌, List, [], ◌∷◌, ◌++◌, arith, get_or, length, drop, append-nil, Float}
+use Rattle.std.proofs.Math.Bool.{and-true}
 use Rattle.std.proofs.Math.Numerals.{add-one}
 use Rattle.std.proofs.Math.Nat.{add-zero, add-suc, suc-add, zero-add, not-suc-le-zero}
-use native.Mathlib.Decide.{ℕ_discrete}
-use lib.Ieee.{Float, nan}
+use Rattle.std.proofs.Math.Decide.{ℕ_discrete}
+use Rattle.std.specs.Float.Ieee.{nan}
 use Rattle.std.proofs.Math.ListN.{set, length-append, length-drop, get_or-eq_default}
 use Rattle.std.proofs.Math.Seq.{set_at, append_snoc, drop-cons, drop-length, get_or-append-add}
 use Rattle.loops.specs.Loop.{iter, every, from, tab, fill, stores, ◌!◌}
@@ -134,9 +133,6 @@ fill_step d f i o x e h =
 pub fill_call : {A : Type 0} (d : A) (f : ℕ → A) (i : ℕ) (o x : List A) (y : A) → x ≡ fill i f o → i < length o → y ≡ f i → set x i y ≡ fill (i + 1) f o
 fill_call d f i o x y e h k = rw k (fill_step d f i o x e h)
 
-pub fill_end : {A : Type 0} (f : ℕ → A) (i n : ℕ) (o x : List A) → x ≡ fill i f o → i ≡ n → x ≡ fill n f o
-fill_end f i n o x e h = rw (← h) e
-
 pub fill_all : {A : Type 0} (f : ℕ → A) (i : ℕ) (o x : List A) → x ≡ fill i f o → i ≡ length o → x ≡ tab (length o) f
 unfolding fill
 fill_all f i o x e h = rw (h, drop-length, append-nil) at e
@@ -149,9 +145,6 @@ stores_none g b o = refl
 pub stores_step : (g : ℕ → Float → Float) (b j : ℕ) (o p : List Float) → p ≡ stores g b j o → set p (b + j) (g j (p ! (b + j))) ≡ stores g b (j + 1) o
 unfolding stores iter
 stores_step g b j o p e = rw (add-one, e)
-
-pub stores_end : (g : ℕ → Float → Float) (b j n : ℕ) (o p : List Float) → p ≡ stores g b j o → j ≡ n → p ≡ stores g b n o
-stores_end g b j n o p e h = rw (← h) e
 
 -- the same from the first place on
 pub stores_step0 : (g : ℕ → Float → Float) (j : ℕ) (o p : List Float) → p ≡ stores g 0 j o → set p j (g j (p ! j)) ≡ stores g 0 (j + 1) o

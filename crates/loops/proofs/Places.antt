@@ -1,7 +1,6 @@
 -- Rows and columns of a matrix that is kept row by row. Assumes nothing.
-use Rattle.std.proofs.Common.{ℕ, zero, suc, ◌+◌, ◌*◌, ◌/◌, ◌%◌, ◌<◌, ◌≤◌, ◌≡◌, ◌∙◌, arith, List, length}
+use Rattle.std.proofs.Common.{ℕ, zero, suc, ◌+◌, ◌*◌, ◌/◌, ◌%◌, ◌<◌, ◌≤◌, ◌≡◌, ◌∙◌, arith, List, length, Float}
 use Rattle.std.proofs.Math.Nat.{not-suc-le-zero, zero-mul, div-lt_iff_lt-mul, mod-lt, add-zero, suc-mul, mul-le-mul, mul-le-mul_right, mul_comm, mul-add-div_right, mul-add-mod_self_right, div-eq_of_lt, mod-eq_of_lt}
-use lib.Ieee.{Float}
 use Rattle.loops.specs.Loop.{mat, fill, ◌!◌}
 use Rattle.loops.proofs.Loops.{length-tab, tab_at, fill_all}
 

@@ -1,16 +1,16 @@
 -- A list is known by its length and what stands at each place: so is a run of stores, and two runs are one. Assumes nothing.
-use Rattle.std.proofs.Common.{ℕ, zero, suc, ◌+◌, ◌-◌, ◌*◌, ◌<◌, ◌≤◌, ◌≡◌, refl, sym, ap, ◌∙◌, ◌≢◌, List, ◌++◌, arith, length, take}
+use Rattle.std.proofs.Common.{ℕ, zero, suc, ◌+◌, ◌-◌, ◌*◌, ◌<◌, ◌≤◌, ◌≡◌, refl, sym, ap, ◌∙◌, ◌≢◌, List, ◌++◌, arith, length, take, Float, Bool}
 use Rattle.std.proofs.Math.Nat.{add-suc, add-zero, zero-add, zero-mul, suc-mul, not-suc-le-zero}
 use Rattle.std.proofs.Math.Numerals.{add-one}
-use native.Mathlib.Decide.{ℕ_discrete, dec_lt}
-use lib.Ieee.{Float, nan}
+use Rattle.std.proofs.Math.Decide.{ℕ_discrete, dec_lt}
+use Rattle.std.specs.Float.Ieee.{nan}
 use Rattle.std.proofs.Math.ListN.{set, length-set, length-append, length-drop}
 use Rattle.std.proofs.Math.Seq.{take-suc, get_or-set_same, get_or-set_other, set-get_or, ext_get_or, get_or-append-add, length-take-le}
 use borrow.Rule.Slice.PartMut.{put_mid}
 use Rattle.std.specs.List.{list_all}
 use Rattle.std.proofs.lemmas.List.{get_or-take, get_or-drop}
 use Rattle.std.proofs.lemmas.List.Folds.{list_all-append}
-use mathlib.Core.Bool.{Bool, ◌&&◌, and-true}
+use Rattle.std.proofs.Math.Bool.{and-true}
 use Rattle.std.proofs.lemmas.Slice.{take-put_mid_below, take-put_mid, drop-put_mid}
 use Rattle.loops.specs.Loop.{iter, every, tab, stores, ◌!◌}
 use Rattle.loops.proofs.Loops.{length-tab, tab_at}
@@ -110,10 +110,6 @@ ahead g k o p e = rw e (stores_out g 0 k o k (λ j q. omega arith))
 -- a loop over all of a list
 pub run_all : (g : ℕ → Float → Float) (o p : List Float) (k : ℕ) → p ≡ stores g 0 k o → k ≡ length o → p ≡ tab (length o) (λ q. g q (o ! q))
 run_all g o p k e h = rw h at e ∙ stores_all g (length o) o refl
-
--- a loop over all of a list that writes without looking
-pub run_to : (f : ℕ → Float) (o p : List Float) (k n : ℕ) → p ≡ stores (λ q x. f q) 0 k o → k ≡ n → length o ≡ n → p ≡ tab n f
-run_to f o p k n e h l = rw h at e ∙ stores_all (λ q x. f q) n o l
 
 -- a part that is written anew, lent as a slice, is a run of stores
 pub put_part : (f : ℕ → Float) (b n k : ℕ) (o y : List Float) → k ≡ n → y ≡ tab n f → b + n ≤ length o → put_mid b k o y ≡ stores (λ j x. f j) b n o

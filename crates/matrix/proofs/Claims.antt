@@ -1,16 +1,10 @@
 -- The claims of specs/Claims.antt: the series stops at term 15 or sooner, [0.5] reaches 15, and s is the least. Assumes nothing.
-use mathlib.Core.Path.{◌≡◌, refl, sym, ap, ◌∙◌, subst}
-use mathlib.Core.List.{List}
-use mathlib.Core.Logic.{inl, inr}
-use Prim.Native.Nat.{ℕ, zero, suc, ◌+◌, ◌*◌, ◌^◌, ◌≤◌, ◌<◌, zero-le}
-use native.Mathlib.Nat.{le_trans, le_refl, le-suc, eq-or-lt_of_le, not-le_of_lt, zero-lt-suc, mul_comm, mul_assoc, mul_left_comm, mul_right_comm, mul-le-mul_right, le_of_suc-le-suc}
-use native.Mathlib.Nat.{le_of_mul-le-mul_right, le-div_iff_mul-le, div-mul-le_self}
-use mathlib.Core.Bool.{Bool, true, false, ◌&&◌, true≢false, false≢true}
-use native.Mathlib.Omega.{arith}
-use lib.Dec.{T, leb→le}
-use lib.Arith.{digits_lt}
+use Rattle.std.proofs.Common.{◌≡◌, refl, sym, ap, ◌∙◌, subst, List, inl, inr, ℕ, zero, suc, ◌+◌, ◌*◌, ◌^◌, ◌≤◌, ◌<◌, zero-le, le_trans, le_refl, eq-or-lt_of_le, not-le_of_lt, zero-lt-suc, mul_comm, mul_assoc, mul_left_comm, mul_right_comm, mul-le-mul_right, le_of_suc-le-suc, le_of_mul-le-mul_right, le-div_iff_mul-le, div-mul-le_self, Bool, true, false, ◌&&◌, true≢false, arith, T, leb→le, Float}
+use Rattle.std.proofs.Math.Nat.{le-suc}
+use Rattle.std.proofs.Math.Bool.{false≢true}
+use Rattle.std.proofs.Math.Arith.{digits_lt}
 use lib.Count.{count_trailing_zeros}
-use lib.Ieee.{Float, nan, inf, fin, binary64, up, down, fits, add, mul, div, le, lt, eq, of_int, round, size, units, odd, span, climb, sum, is_nan, of_bits, of_fields}
+use Rattle.std.specs.Float.Ieee.{nan, inf, fin, binary64, up, down, fits, add, mul, div, le, lt, eq, of_int, round, size, units, odd, span, climb, sum, is_nan, of_bits, of_fields}
 use lib.Ieee.Fits.{down_pos}
 use lib.Ieee.Scale
 use Rattle.loops.proofs.Bools.{both_true}

@@ -1,18 +1,9 @@
 -- Powers of two as doubles, and the least one that is enough. Assumes nothing.
-use Prim.Native.Nat.{ℕ, zero, suc, ◌+◌, ◌*◌, ◌^◌, ◌<◌, ◌≤◌}
-use mathlib.Core.Path.{◌≡◌, refl, sym, ap, ◌∙◌}
-use mathlib.Core.Bool.{Bool, true, false, not, ◌&&◌, cond}
-use mathlib.Core.List.{List}
-use native.Mathlib.Nat.{pow-suc, add-suc, suc-add, mul_right_comm, add-zero}
-use native.Mathlib.Numerals.{add-one}
-use native.Mathlib.Decide.{ℕ_discrete, dec_le, dec_lt}
-use borrow.Author.Count.{below_more}
-use native.Mathlib.Omega.{arith}
-use lib.Dec.{ltb, leb}
-use lib.IntN.{negsuc}
-use lib.Ieee.{Float, nan, inf, fin, binary64, lt, le, eq, is_nan, mul, round, size, units, odd, span, climb, of_bits, of_fields, up, down}
+use Rattle.std.proofs.Common.{ℕ, zero, suc, ◌+◌, ◌*◌, ◌^◌, ◌<◌, ◌≤◌, ◌≡◌, refl, sym, ap, ◌∙◌, Bool, true, false, not, ◌&&◌, cond, List, pow-suc, add-suc, suc-add, mul_right_comm, add-zero, add-one, below_more, arith, ltb, leb, negsuc, Float, lt-ltb, le-ltb, le-leb}
+use Rattle.std.proofs.Math.Decide.{ℕ_discrete, dec_le, dec_lt}
+use Rattle.std.specs.Float.Ieee.{nan, inf, fin, binary64, lt, le, eq, is_nan, mul, round, size, units, odd, span, climb, of_bits, of_fields, up, down}
 use lib.Count.{count_trailing_zeros}
-use borrow.Author.Tests.{not-true, not-false, lt-ltb, le-ltb, le-leb, lt-leb}
+use borrow.Author.Tests.{not-true, not-false, lt-leb}
 use Rattle.loops.proofs.Bools.{both_true}
 use Rattle.loops.specs.Loop.{every, from, tab, ◌!◌}
 use Rattle.loops.proofs.Loops.{tab_at}

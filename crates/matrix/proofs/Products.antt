@@ -1,11 +1,10 @@
 -- The product and the identity, row by row. Assumes nothing.
-use Rattle.std.proofs.Common.{ℕ, zero, suc, ◌+◌, ◌*◌, ◌/◌, ◌%◌, ◌<◌, ◌≡◌, refl, sym, ap, ◌∙◌, cond, List, arith, length, take, drop}
+use Rattle.std.proofs.Common.{ℕ, zero, suc, ◌+◌, ◌*◌, ◌/◌, ◌%◌, ◌<◌, ◌≡◌, refl, sym, ap, ◌∙◌, cond, List, arith, length, take, drop, eq-eqb, ne_eqb, Float}
 use Rattle.std.proofs.Math.Numerals.{add-one}
 use Rattle.std.proofs.Math.Nat.{suc-mul, not-suc-le-zero}
-use native.Mathlib.Decide.{ℕ_discrete}
+use Rattle.std.proofs.Math.Decide.{ℕ_discrete}
 use Rattle.std.proofs.Math.Dec.{eqb}
-use borrow.Author.Tests.{eq-eqb, ne_eqb}
-use lib.Ieee.{Float, nan}
+use Rattle.std.specs.Float.Ieee.{nan}
 use Rattle.std.proofs.Math.ListN.{set, replicate, length-drop, length-replicate, get_or-replicate}
 use Rattle.std.proofs.Math.Seq.{set-get_or, length-take-le}
 use borrow.Rule.Slice.PartMut.{put_mid}

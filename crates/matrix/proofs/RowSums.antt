@@ -1,14 +1,8 @@
 -- One row of a Taylor term: the row sum of magnitudes shrinks to 9 / (16 * K) of the last term's, and a little. Assumes nothing.
-use mathlib.Core.Path.{◌≡◌, refl, sym, ap, ◌∙◌, subst}
-use Prim.Native.Nat.{ℕ, zero, suc, ◌+◌, ◌*◌, ◌/◌, ◌^◌, ◌≤◌, ◌<◌, zero-le}
-use native.Mathlib.Nat.{le_trans, le_refl, le_of_eq, le-suc, suc-mul, add-mul, mul_comm, mul_assoc, mul_left_comm, mul_right_comm, mul-le-mul_right, mul-le-mul_left, mul-le-mul, add-le-add}
-use native.Mathlib.Nat.{le_of_mul-le-mul_right}
-use native.Mathlib.Omega.{arith}
-use mathlib.Core.Bool.{false}
-use lib.Dec.{T, leb, leb→le, lit≤}
-use lib.Pow.{pow_pos}
+use Rattle.std.proofs.Common.{◌≡◌, refl, sym, ap, ◌∙◌, subst, ℕ, zero, suc, ◌+◌, ◌*◌, ◌/◌, ◌^◌, ◌≤◌, ◌<◌, zero-le, le_trans, le_refl, le_of_eq, suc-mul, add-mul, mul_comm, mul_assoc, mul_left_comm, mul_right_comm, mul-le-mul_right, mul-le-mul_left, mul-le-mul, add-le-add, le_of_mul-le-mul_right, arith, false, T, leb, leb→le, lit≤, pow_pos, Float}
+use Rattle.std.proofs.Math.Nat.{le-suc}
 use lib.Count.{count_trailing_zeros}
-use lib.Ieee.{Float, binary64, emax, low, unlike, of_bits, of_fields, odd}
+use Rattle.std.specs.Float.Ieee.{binary64, emax, low, unlike, of_bits, of_fields, odd}
 use lib.Ieee.Exact.{HasValue}
 use Rattle.float.specs.Arith.{◌⊕◌, ◌⊗◌, ◌⊘◌, zero+}
 use Rattle.loops.specs.Loop.{iter}

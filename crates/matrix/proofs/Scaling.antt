@@ -1,15 +1,9 @@
 -- The scaled matrix: where 2 ^ s is twice the largest row sum at least, the rows of the matrix divided by 2 ^ s sum to little more than a half. Assumes nothing.
-use mathlib.Core.Path.{◌≡◌, refl, sym, ap, ◌∙◌, subst}
-use mathlib.Core.Logic.{inl, inr}
-use Prim.Native.Nat.{ℕ, zero, suc, ◌+◌, ◌-◌, ◌*◌, ◌/◌, ◌%◌, ◌^◌, ◌≤◌, ◌<◌}
-use native.Mathlib.Nat.{le_trans, le_refl, le_of_eq, le-suc, lt_of_not-le, eq-or-lt_of_le, not-le_of_lt, zero-lt-suc, zero-mul, add-mul, mul-one, mul_comm, mul_assoc, mul_left_comm}
-use native.Mathlib.Nat.{mul_right_comm, mul-le-mul_right, mul-le-mul_left, mul-pos, le_of_mul-le-mul_right, le_of_suc-le-suc, one-mul}
-use native.Mathlib.Omega.{arith}
-use mathlib.Core.Bool.{Bool, true, false, cond, ◌&&◌, beq, true≢false}
-use lib.Dec.{T, leb, ltb, eqb, leb→le}
-use lib.Pow.{pow_pos, pow-add, pow-lt}
-use lib.IntN.{pos, negsuc}
-use lib.Ieee.{Float, nan, inf, fin, binary64, emax, up, down, fits, add, round, sum}
+use Rattle.std.proofs.Common.{◌≡◌, refl, sym, ap, ◌∙◌, subst, inl, inr, ℕ, zero, suc, ◌+◌, ◌-◌, ◌*◌, ◌/◌, ◌%◌, ◌^◌, ◌≤◌, ◌<◌, le_trans, le_refl, le_of_eq, lt_of_not-le, eq-or-lt_of_le, not-le_of_lt, zero-lt-suc, zero-mul, add-mul, mul-one, mul_comm, mul_assoc, mul_left_comm, mul_right_comm, mul-le-mul_right, mul-le-mul_left, mul-pos, le_of_mul-le-mul_right, le_of_suc-le-suc, one-mul, arith, Bool, true, false, cond, ◌&&◌, true≢false, T, leb, ltb, eqb, leb→le, pow_pos, pow-add, pos, negsuc, Float}
+use Rattle.std.proofs.Math.Nat.{le-suc}
+use Rattle.std.proofs.Math.Bool.{beq}
+use Rattle.std.proofs.Math.Pow.{pow-lt}
+use Rattle.std.specs.Float.Ieee.{nan, inf, fin, binary64, emax, up, down, fits, add, round, sum}
 use lib.Ieee.Digits.{back}
 use lib.Ieee.Fits.{down_pos, and_l, and_r}
 use lib.Ieee.Exact.{HasValue}

@@ -1,16 +1,8 @@
 -- Where every entry of a term is at most 2 ^ -52, the series stops there, whatever the sum holds. So it stops at term 15 or sooner. Assumes nothing.
-use mathlib.Core.Path.{◌≡◌, refl, sym, ap, ◌∙◌, subst}
-use mathlib.Core.List.{List}
-use Prim.Native.Nat.{ℕ, zero, suc, ◌+◌, ◌*◌, ◌/◌, ◌%◌, ◌^◌, ◌≤◌, ◌<◌, zero-le}
-use native.Mathlib.Nat.{le_trans, le_refl, le_of_eq, le_of_lt, le-suc, not-le_of_lt, zero-lt-suc, mul_comm, mul-le-mul_right, mul-le-mul_left, mul-pos, le_of_mul-le-mul_right}
-use native.Mathlib.Nat.{div-lt_iff_lt-mul, div-add-mod', mod-lt, add-zero, add-suc, suc-add, le_of_suc-le-suc, one-mul}
-use native.Mathlib.Omega.{arith}
-use mathlib.Core.Bool.{Bool, true, false, not, cond, true≢false}
-use lib.Dec.{T, ltb, ltb→lt, nltb→le, lit≤}
-use lib.Pow.{pow_pos}
-use lib.ListN.{length, get_or}
+use Rattle.std.proofs.Common.{◌≡◌, refl, sym, ap, ◌∙◌, subst, List, ℕ, zero, suc, ◌+◌, ◌*◌, ◌/◌, ◌%◌, ◌^◌, ◌≤◌, ◌<◌, zero-le, le_trans, le_refl, le_of_eq, le_of_lt, not-le_of_lt, zero-lt-suc, mul_comm, mul-le-mul_right, mul-le-mul_left, mul-pos, le_of_mul-le-mul_right, div-lt_iff_lt-mul, div-add-mod', mod-lt, add-zero, add-suc, suc-add, le_of_suc-le-suc, one-mul, arith, Bool, true, false, not, cond, true≢false, T, ltb, ltb→lt, nltb→le, lit≤, pow_pos, length, get_or, Float}
+use Rattle.std.proofs.Math.Nat.{le-suc}
 use lib.Count.{count_trailing_zeros}
-use lib.Ieee.{Float, nan, inf, fin, binary64, up, down, mul, lt, le, round, is_nan, of_bits, of_fields, odd}
+use Rattle.std.specs.Float.Ieee.{nan, inf, fin, binary64, up, down, mul, lt, le, round, is_nan, of_bits, of_fields, odd}
 use lib.Ieee.Fits.{down_pos}
 use lib.Ieee.Exact.{HasValue, round_exact}
 use lib.Ieee.Order.{transfer, le_of_values, round_mono}

@@ -1,16 +1,8 @@
 -- The Taylor terms as matrices: the row sums of term k are at most `bd k` units, and every entry is finite. Assumes nothing.
-use mathlib.Core.Path.{◌≡◌, refl, sym, ap, ◌∙◌, subst}
-use mathlib.Core.List.{List}
-use Prim.Native.Nat.{ℕ, zero, suc, ◌+◌, ◌*◌, ◌/◌, ◌^◌, ◌≤◌, ◌<◌, zero-le}
-use native.Mathlib.Nat.{le_trans, le_refl, le_of_eq, le-suc, lt_of_lt_of_le, lt_of_le_of_lt, not-le_of_lt, zero-lt-suc, mul-one, mul-le-mul_right, le-div_iff_mul-le, div-le_of_le-mul}
-use native.Mathlib.Omega.{arith}
-use mathlib.Core.Bool.{Bool, true, false, cond}
-use lib.Dec.{T, leb→le, eqb, eqb→eq, lit≤}
-use lib.Pow.{shl_lt}
-use lib.ListN.{length}
-use lib.IntN.{pos}
+use Rattle.std.proofs.Common.{◌≡◌, refl, sym, ap, ◌∙◌, subst, List, ℕ, zero, suc, ◌+◌, ◌*◌, ◌/◌, ◌^◌, ◌≤◌, ◌<◌, zero-le, le_trans, le_refl, le_of_eq, lt_of_lt_of_le, lt_of_le_of_lt, not-le_of_lt, zero-lt-suc, mul-one, mul-le-mul_right, le-div_iff_mul-le, arith, Bool, true, false, cond, T, leb→le, eqb, eqb→eq, lit≤, shl_lt, length, pos, Float}
+use Rattle.std.proofs.Math.Nat.{le-suc, div-le_of_le-mul}
 use lib.Count.{count_trailing_zeros}
-use lib.Ieee.{Float, binary64, low, of_int, of_bits, of_fields, odd}
+use Rattle.std.specs.Float.Ieee.{binary64, low, of_int, of_bits, of_fields, odd}
 use lib.Ieee.Exact.{HasValue, round_exact}
 use Rattle.float.specs.Arith.{◌⊘◌, zero+, one}
 use Rattle.loops.specs.Loop.{◌!◌}

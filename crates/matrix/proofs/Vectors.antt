@@ -1,11 +1,7 @@
 -- Laws of `vec`: what a loop over a vector leaves after i turns, and what stands at each place. Assumes nothing.
-use Prim.Native.Nat.{ℕ, ◌+◌, ◌-◌, ◌≤◌, ◌<◌}
-use mathlib.Core.Path.{◌≡◌, refl, ◌∙◌}
-use mathlib.Core.List.{List}
-use native.Mathlib.Omega.{arith}
-use lib.Ieee.{Float, nan, binary64, of_bits}
-use lib.ListN.{length, set, replicate, drop, get_or-replicate, get_or-append}
-use lib.Seq.{get_or-append-add, get_or-drop}
+use Rattle.std.proofs.Common.{ℕ, ◌+◌, ◌-◌, ◌≤◌, ◌<◌, ◌≡◌, ◌∙◌, List, arith, Float, length, set, replicate, drop, get_or-append-add, get_or-drop}
+use Rattle.std.specs.Float.Ieee.{nan, binary64, of_bits}
+use Rattle.std.proofs.Math.ListN.{get_or-replicate, get_or-append}
 use Rattle.loops.specs.Loop.{fill, tab, ◌!◌}
 use Rattle.loops.proofs.Loops.{fill_none, fill_step, length-fill, length-tab, tab_at}
 use Rattle.float.specs.Arith.{zero+}
@@ -20,9 +16,6 @@ vec_none f = fill_none f zeros
 pub vec_call : (f : ℕ → Float) (i : ℕ) (x : List Float) (y : Float) → x ≡ vec i f → i < 16 → y ≡ f i → set x i y ≡ vec (i + 1) f
 unfolding vec zeros
 vec_call f i x y e h k = rw k (fill_step nan f i zeros x e h)
-
-pub vec_step : (f : ℕ → Float) (i : ℕ) (x : List Float) → x ≡ vec i f → i < 16 → set x i (f i) ≡ vec (i + 1) f
-vec_step f i x e h = vec_call f i x (f i) e h refl
 
 pub vec_end : (f : ℕ → Float) (i n : ℕ) (x : List Float) → x ≡ vec i f → i ≡ n → x ≡ vec n f
 vec_end f i n x e h = rw (← h) e

@@ -15,6 +15,7 @@ products k left right n j = iter k (λ m x. x ⊕ left ! m ⊗ at right n m j) z
 
 -- the first k products of each entry of a row, one or two of them, as n is odd or even
 pub record Started (left right : List Float) (n k : ℕ) (after : List Float) : Type 0 where
+  pub some : 1 ≤ k
   pub room : k ≤ n
   pub even : k % 2 ≡ n % 2
   pub row : after ≡ tab n (products k left right n)

@@ -1,4 +1,4 @@
--- matrix.rs: the exponential of a matrix by scaling, Taylor's series and squaring, in document 01's five steps. A matrix of size n is its n * n entries, row by row. Definitions only.
+-- matrix.rs: the exponential of a matrix by scaling, Taylor's series and squaring, in five steps. A matrix of size n is its n * n entries, row by row. Definitions only.
 use Rattle.std.specs.Prelude.{ℕ, zero, suc, ◌+◌, ◌*◌, ◌^◌, ◌≤◌, Bool, true, false, cond, ◌&&◌, Option, Some, None, List, eqb, leb, pos, Float, length}
 use Rattle.std.specs.Float.{nan, inf, fin, binary64}
 use Rattle.std.specs.Float.Ieee.{le, of_int, up, down}

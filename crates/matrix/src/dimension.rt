@@ -36,6 +36,7 @@ impl Dimension {
 }
 
 // The vector of n entries, each by its place; +0.0 past them.
+// Kept: by array::from_fn each of the sixteen places would test whether it is in use.
 pub fn vector<F: Fn(usize) -> f64>(n: Dimension, entry: F) -> [f64; 16]
     requires { (i : ℕ) → i < n → F.pre entry i }
     ensures { (f : ℕ → Float) → ((i : ℕ) (x : Float) → i < n → F.post entry i x → x ≡ f i) → result ≡ vec n f }

@@ -18,6 +18,7 @@ pub use dimension::{Dimension, vector};
 pub const LIMIT: f64 = 2147483648.0;
 
 // Where row i of a matrix of size n begins.
+// Kept: n ≤ 20, here and below, is said of a number: lent matrices have their lengths said of n itself, and where they are handed in as a Square products take a tenth more instructions.
 fn row_start(i: usize, n: usize) -> usize
     requires { (i < n) × (n ≤ 20) }
     ensures { (result ≡ i * n) × (result + n ≤ n * n) }
@@ -26,6 +27,7 @@ fn row_start(i: usize, n: usize) -> usize
 }
 
 // A matrix that is read: its entries, row by row, and its size.
+// Kept: of any size and with no law, for the products; that of methods has a Dimension and the law of its length.
 #[derive(Clone, Copy)]
 struct Square<'a> {
     entries: &'a [f64],
@@ -49,6 +51,7 @@ impl<'a> Square<'a> {
 // ---- the identity and the products
 
 // The identity of size n.
+// Kept, as are the rows of mat_mul: over an iter_mut with step_by, zip or chunks an invariant cannot name what was written.
 pub fn identity(out: &mut [f64], n: usize)
     requires { (n ≤ 20) × (length out.old ≡ n * n) }
     ensures { out.new ≡ identity n }
@@ -61,6 +64,7 @@ pub fn identity(out: &mut [f64], n: usize)
 }
 
 // The first product of each entry of a row: 0.0 + value * right[j].
+// Kept: three turns of a product, of one and of two products at a time; in one function the second and what it is added to would be flags, asked at each entry.
 fn set_one(out: &mut [f64], value: f64, right: &[f64])
     requires { length right.now ≡ length out.old }
     ensures { out.new ≡ tab (length out.old) (λ j. zero+ ⊕ value ⊗ right.now ! j) }
@@ -143,13 +147,14 @@ fn row_dot(row: &[f64], v: &[f64]) -> f64
     ensures { result ≡ sum_of (length row.now) (λ j. row.now ! j ⊗ v.now ! j) }
 {
     let mut sum = row[0] * v[0];
-    for j in 1..row.len() {
-        sum += row[j] * v[j];
+    for (x, y) in row[1..].iter().zip(&v[1..]) {
+        sum += x * y;
     }
     sum
 }
 
 // A matrix times a vector of n entries; the places past n are +0.0. Not inlined: a step's frame, which is the deepest, would grow.
+// Kept: by `vector` it takes a twentieth more instructions.
 #[inline(never)]
 pub fn mat_vec(m: &[f64], v: [f64; 16], n: usize) -> [f64; 16]
     requires { (n ≤ 16) × (length m.now ≡ n * n) }
@@ -180,6 +185,7 @@ fn row_sum(row: &[f64]) -> f64
 
 impl<'a> Square<'a> {
     // The largest row sum; None where a row sum is not finite or is above 2^31.
+    // Kept: a try_fold would have the same lines in a closure, and an Option around the larger of two.
     fn norm(&self) -> Option<f64>
         ensures { Normed self.now.entries.now self.now.size result }
     {
@@ -237,6 +243,7 @@ fn div_all(m: &mut [f64], d: f64)
 }
 
 // The larger of a number and x; a NaN is passed over.
+// Kept: float::larger without its test of `big`, which is no NaN; the series asks it twice for each entry.
 fn raise(big: f64, x: f64) -> f64
     requires { is_nan big ≡ false }
     ensures { result ≡ larger big x }
@@ -245,6 +252,7 @@ fn raise(big: f64, x: f64) -> f64
 }
 
 // Divides the term and adds it to the sum; whether it is small enough to be the last.
+// Kept: an invariant cannot name what a zip of both writes; and the answer, here and of `turn`, is what the series' `if` asks: a ControlFlow would be asked by is_break.
 fn add_term(term: &mut [f64], sum: &mut [f64], d: f64) -> bool
     requires { length sum.old ≡ length term.old }
     ensures { Added term.old sum.old d term.new sum.new result }
@@ -273,7 +281,7 @@ fn turn(a: &[f64], sum: &mut [f64], last: &[f64], next: &mut [f64], k: u32, n: u
 }
 
 // The series of the exponential, into sum, and the number of its last term.
-// Kept: the three others are written, so n goes with them; by a Square the compiler loses n's bound, and products take a tenth more instructions.
+// Kept: the three others are written, so n goes with them; where they are handed in as a Square the compiler loses n's bound, and products take a tenth more instructions.
 fn taylor(a: &[f64], sum: &mut [f64], even: &mut [f64], odd: &mut [f64], n: usize) -> u32
     requires n_bound { n ≤ 20 }
     requires a_len { (length a.now ≡ n * n) × (length sum.old ≡ n * n) × (length even.old ≡ n * n) × (length odd.old ≡ n * n) }
@@ -298,6 +306,7 @@ fn taylor(a: &[f64], sum: &mut [f64], even: &mut [f64], odd: &mut [f64], n: usiz
 // ---- step 5: the squarings
 
 // m squared 2 * pairs times, by way of other.
+// Kept: the turns are only counted, and nothing is made of their numbers.
 fn square_pairs(m: &mut [f64], other: &mut [f64], pairs: u32, n: usize)
     requires n_bound { n ≤ 20 }
     requires m_len { (length m.old ≡ n * n) × (length other.old ≡ n * n) }
@@ -313,6 +322,7 @@ fn square_pairs(m: &mut [f64], other: &mut [f64], pairs: u32, n: usize)
 
 // The exponential over lent room, and the number of its terms. The sum is built where an even number of
 // squarings ends in out.
+// Kept: what the three hand on is no struct: its ghost field would be Ready, which no longer holds once m is divided.
 fn exp_into(
     m: &mut [f64],
     out: &mut [f64],

@@ -1,18 +1,15 @@
 -- `float::abs` meets its contract. Assumes nothing.
-use Rattle.float.proofs.Floats.{zero-neg, zero_pos, some_neg, some_pos}
+use Rattle.std.proofs.Common.{◌≡◌, false, refl, ◌∙◌}
+use Rattle.std.specs.Prelude.{Float}
+use Rattle.std.specs.Float.{nan, inf, fin, float_with_sign}
+use Rattle.float.specs.Arith.{abs}
 use Rattle.float.proofs.abs.Goals as goal
-use Rattle.float.proofs.abs.Goals.{then-x, else-x}
 
-pub returns-then-size : goal.returns-then-size
-returns-then-size c =
-    elim c.if-x.branch [
-      | then-x w ↦ zero-neg _ _ w.if-x.true w.size-is c.if-size.true
-      | else-x w ↦ zero_pos _ _ c.well_formed.0.1 w.size-is c.if-size.true
-    ]
+with_sign : (x : Float) → float_with_sign false x ≡ abs x
+unfolding abs float_with_sign
+with_sign nan = refl
+with_sign (inf s) = refl
+with_sign (fin s m e) = refl
 
-pub returns-else-size : goal.returns-else-size
-returns-else-size c =
-    elim c.if-x.branch [
-      | then-x w ↦ some_neg _ _ w.if-x.true w.size-is
-      | else-x w ↦ some_pos _ _ w.if-x.false w.size-is c.if-size.false
-    ]
+pub returns : goal.returns
+returns c = c.abs.ensures.value ∙ with_sign _

@@ -1,8 +1,7 @@
--- `matrix::row_dot` meets its contract: the sum has the first j products. Assumes nothing.
-use Rattle.std.proofs.Common.{◌≡◌}
+use Rattle.std.proofs.Common.{◌≡◌, ◌+◌, length, suc}
 use Rattle.loops.specs.Loop.{◌!◌}
 use Rattle.float.specs.Arith.{◌⊗◌, sum_of}
 use Rattle.matrix.proofs.row_dot.Given as goal
 
-abbrev pub invariant-loop-j : goal.invariant-loop-j
-invariant-loop-j l = l.sum ≡ sum_of l.j (λ k. l.row ! k ⊗ l.v ! k)
+abbrev pub invariant-loop-x : goal.invariant-loop-x
+invariant-loop-x l = l.sum ≡ sum_of (length l.yielded + 1) (λ k. l.row ! k ⊗ l.v ! k)
