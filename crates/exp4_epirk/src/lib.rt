@@ -1,19 +1,23 @@
 // methods.rs: exp4, epirk4s3, epirk5s3 and epirk5p, the schemes over remainders. A pass is replayed over
 // the answers so far: a scheme works out the state of its first question, and a function for each
 // question takes the pass up there. A phi term that the question to come does not use is only tested.
+// Kept: a part takes what it needs of the parts before it, by the scheme's own names, and says what that is and how many answers there are; a struct for each part would be made once and read once.
 #![tactic(auto)]
 
 ghost use Rattle.std.specs.Prelude.{◌≡◌, cond, List, ℕ, ◌+◌, ◌-◌, ◌≤◌, leb, Float};
 ghost use Rattle.methods.specs.Numbers.{num};
+ghost use Rattle.methods.specs.Order.{order_number};
 ghost use Rattle.methods.specs.Tally.{Tried};
 ghost use Rattle.methods.specs.Pass.{under, replay};
 ghost use Rattle.methods.specs.Parts.{if_wanted, in32, report, taken, stand, replay_from, reached};
 ghost use Rattle.methods.specs.Schemes.{exp4, epirk4s3, epirk4s3_a, epirk4s3_b, epirk5s3, powi, epirk5p, epirk5p_end, epirk5p1, epirk5p2};
+ghost use Rattle.exp4_epirk.specs.Variant.{is_second};
 ghost use Rattle.exp4_epirk.specs.Stages.{exp4_4, exp4_7, epirk4s3_2, epirk4s3_3, epirk5s3_2, epirk5s3_3, epirk5p_1, epirk5p_2};
 
+use methods::Order::{Four, One, Three, Two};
 use methods::{
-    Action, PLACES, Point, Reached, Replay, Tally, Vector, add, after, asked, axpy, combine2,
-    combine3, ended, more, scale,
+    Action, Order, PLACES, Point, Reached, Replay, Tally, Vector, add, after, asked, axpy,
+    combine2, combine3, ended, more, scale,
 };
 
 // ---- exp4
@@ -29,9 +33,9 @@ pub fn exp4(r: &Replay<'_>) -> Option<Reached>
         f0,
         ..
     } = r.point;
-    let k10 = r.phi_term(h / 3.0, 1, 1.0, f0)?;
-    let k11 = r.phi_term(2.0 * h / 3.0, 1, 1.0, f0)?;
-    let k12 = r.phi_term(h, 1, 1.0, f0)?;
+    let k10 = r.phi_term(h / 3.0, One, 1.0, f0)?;
+    let k11 = r.phi_term(2.0 * h / 3.0, One, 1.0, f0)?;
+    let k12 = r.phi_term(h, One, 1.0, f0)?;
     let tally = k10.tally.joined(k11.tally).joined(k12.tally);
     let w4 = combine3(
         -7.0 / 300.0,
@@ -69,9 +73,9 @@ fn exp4_4(
         return Some(question);
     }
     let d4 = r.remainder(u4, 0);
-    let k20 = r.phi_term(h / 3.0, 1, 1.0, d4)?;
-    let k21 = r.phi_term(2.0 * h / 3.0, 1, 1.0, d4)?;
-    let k22 = r.phi_term(h, 1, 1.0, d4)?;
+    let k20 = r.phi_term(h / 3.0, One, 1.0, d4)?;
+    let k21 = r.phi_term(2.0 * h / 3.0, One, 1.0, d4)?;
+    let k22 = r.phi_term(h, One, 1.0, d4)?;
     let tally = tally.joined(k20.tally).joined(k21.tally).joined(k22.tally);
     let w7 = combine3(59.0 / 300.0, k10, -7.0 / 75.0, k11, 269.0 / 300.0, k12, n);
     let w7 = axpy(w7, 2.0 / 3.0, k20.v, n);
@@ -106,7 +110,7 @@ fn exp4_7(
         return Some(question);
     }
     let d7 = r.remainder(u7, 1);
-    let k7 = r.phi_term(h / 3.0, 1, 1.0, d7)?;
+    let k7 = r.phi_term(h / 3.0, One, 1.0, d7)?;
     let increment = axpy(k12, 1.0, k20, n);
     let increment = axpy(increment, -4.0 / 3.0, k21, n);
     let increment = axpy(increment, 1.0, k22, n);
@@ -141,8 +145,8 @@ pub fn epirk4s3_a(r: &Replay<'_>) -> Option<Reached>
         q2c: -144.0,
         q3c: 81.0,
     };
-    let k2 = r.phi_term(k.c2 * h, 1, k.c2 * h, f0)?;
-    let k3 = r.phi_term_if(1 <= r.count, k.c3 * h, 1, k.c3 * h, f0)?;
+    let k2 = r.phi_term(k.c2 * h, One, k.c2 * h, f0)?;
+    let k3 = r.phi_term_if(1 <= r.count, k.c3 * h, One, k.c3 * h, f0)?;
     epirk4s3(r, k, k2, k3)
 }
 
@@ -160,9 +164,9 @@ pub fn epirk4s3_b(r: &Replay<'_>) -> Option<Reached>
         q3c: 144.0,
     };
     let d2 = 8.0 * float::powi2(k.c2 * h) / (3.0 * h);
-    let k2 = r.phi_term(k.c2 * h, 2, d2, f0)?;
+    let k2 = r.phi_term(k.c2 * h, Two, d2, f0)?;
     let d3 = 16.0 * float::powi2(k.c3 * h) / (9.0 * h);
-    let k3 = r.phi_term_if(1 <= r.count, k.c3 * h, 2, d3, f0)?;
+    let k3 = r.phi_term_if(1 <= r.count, k.c3 * h, Two, d3, f0)?;
     epirk4s3(r, k, k2, k3)
 }
 
@@ -227,9 +231,9 @@ fn epirk4s3_3(
     let cube = float::powi3(h);
     let b4 = combine2(k.r2c / square, r2, k.r3c / square, r3, n);
     let b5 = combine2(k.q2c / cube, r2, k.q3c / cube, r3, n);
-    let s = r.phi_term(h, 1, h, f0)?;
-    let s = r.add_term(s, 1.0, h, 3, cube, b4)?;
-    let s = r.add_term(s, 1.0, h, 4, float::powi4(h), b5)?;
+    let s = r.phi_term(h, One, h, f0)?;
+    let s = r.add_term(s, 1.0, h, Three, cube, b4)?;
+    let s = r.add_term(s, 1.0, h, Four, float::powi4(h), b5)?;
     ended(tally.joined(s.tally), add(u, s.v, n), [0.0; PLACES])
 }
 
@@ -248,9 +252,9 @@ pub fn epirk5s3(r: &Replay<'_>) -> Option<Reached>
     } = r.point;
     let c2 = 48.0 / 55.0;
     let d1 = (55.0 / (8.0 * h)) * float::powi2(c2 * h);
-    let k2 = r.phi_term(c2 * h, 2, d1, f0)?;
+    let k2 = r.phi_term(c2 * h, Two, d1, f0)?;
     let d2 = (-3025.0 / (192.0 * h * h)) * float::powi3(c2 * h);
-    let k2 = r.add_term(k2, 1.0, c2 * h, 3, d2, f0)?;
+    let k2 = r.add_term(k2, 1.0, c2 * h, Three, d2, f0)?;
     let u2 = add(u, k2.v, n);
     epirk5s3_2(r, k2.tally, u2)
 }
@@ -273,12 +277,12 @@ fn epirk5s3_2(r: &Replay<'_>, tally: Tally, u2: Vector) -> Option<Reached>
     }
     let r2 = r.remainder(u2, 0);
     let c3 = 4.0 / 9.0;
-    let k3 = r.phi_term(c3 * h, 1, (53.0 / 5.0) * (c3 * h), f0)?;
+    let k3 = r.phi_term(c3 * h, One, (53.0 / 5.0) * (c3 * h), f0)?;
     let d3 = (-648.0 / (5.0 * h)) * float::powi2(c3 * h);
-    let k3 = r.add_term(k3, 1.0, c3 * h, 2, d3, f0)?;
+    let k3 = r.add_term(k3, 1.0, c3 * h, Two, d3, f0)?;
     let e3 = 32065.0 / (1152.0 * h * h);
     let b3 = combine2(2916.0 / (5.0 * h * h), f0, e3, r2, n);
-    let k3 = r.add_term(k3, 1.0, c3 * h, 3, float::powi3(c3 * h), b3)?;
+    let k3 = r.add_term(k3, 1.0, c3 * h, Three, float::powi3(c3 * h), b3)?;
     let u3 = add(u, k3.v, n);
     let tally = tally.joined(k3.tally);
     epirk5s3_3(r, tally, r2, u3)
@@ -309,15 +313,23 @@ fn epirk5s3_3(r: &Replay<'_>, tally: Tally, r2: Vector, u3: Vector) -> Option<Re
     let q2 = 499125.0 / (27136.0 * cube);
     let q3 = -2187.0 / (106.0 * cube);
     let b5 = combine2(q2, r2, q3, r3, n);
-    let k = r.phi_term(h, 1, h, f0)?;
-    let k = r.add_term(k, 1.0, h, 3, cube, b4)?;
-    let k = r.add_term(k, 1.0, h, 4, float::powi4(h), b5)?;
+    let k = r.phi_term(h, One, h, f0)?;
+    let k = r.add_term(k, 1.0, h, Three, cube, b4)?;
+    let k = r.add_term(k, 1.0, h, Four, float::powi4(h), b5)?;
     ended(tally.joined(k.tally), add(u, k.v, n), [0.0; PLACES])
 }
 
 // ---- epirk5p
 
-// What tells its two variants apart.
+// Its two variants.
+#[derive(Clone, Copy)]
+enum Variant {
+    P1,
+    P2,
+}
+
+// What tells them apart.
+// Kept: b31 and b32 stand for both, though the pass of P1 does not read them: the two are one pass by one set of names, as the definitions have it.
 #[derive(Clone, Copy)]
 struct Weights5p {
     g11: f64,
@@ -329,9 +341,8 @@ struct Weights5p {
     b31: f64,
     b32: f64,
     b33: f64,
-    second_order: usize,
-    variant_2: bool,
-    ghost order: { (1 ≤ second_order) × (second_order ≤ 4) },
+    second_order: Order,
+    variant: Variant,
 }
 
 #[inline(never)]
@@ -348,8 +359,8 @@ pub fn epirk5p1(r: &Replay<'_>) -> Option<Reached>
         b31: 0.0,
         b32: 0.0,
         b33: 9.358546505792617,
-        second_order: 1,
-        variant_2: false,
+        second_order: One,
+        variant: Variant::P1,
     };
     epirk5p(r, k)
 }
@@ -368,32 +379,35 @@ pub fn epirk5p2(r: &Replay<'_>) -> Option<Reached>
         b31: -0.12848678265700557,
         b32: -0.16102803317280918,
         b33: 5.267263316169096,
-        second_order: 2,
-        variant_2: true,
+        second_order: Two,
+        variant: Variant::P2,
     };
     epirk5p(r, k)
 }
 
 // x to the first or to the second.
-fn powi(x: f64, k: usize) -> f64
-    ensures { result ≡ powi x k }
+fn powi(x: f64, k: Order) -> f64
+    ensures { result ≡ powi x (order_number k) }
 {
-    if k == 2 { float::powi2(x) } else { x }
+    match k {
+        Two => float::powi2(x),
+        _ => x,
+    }
 }
 
-// if variant_2 { h } else { 1.0 }
-fn divisor(variant_2: bool, h: f64) -> f64
-    ensures { result ≡ cond variant_2 h (num 1) }
+// What the second variant divides by, and the first does not.
+fn divisor(variant: Variant, h: f64) -> f64
+    ensures { result ≡ cond (is_second variant) h (num 1) }
 {
-    if variant_2 {
-        return h;
+    match variant {
+        Variant::P1 => 1.0,
+        Variant::P2 => h,
     }
-    1.0
 }
 
 fn epirk5p(r: &Replay<'_>, k: Weights5p) -> Option<Reached>
     ensures { stand result ≡ in32 (replay_from r.now 0 (epirk5p r.now.point.n r.now.jacobian.now r.now.point.state r.now.point.time r.now.point.step r.now.point.f0
-        k.g11 k.g21 k.g32 k.g33 k.a22 k.b2 k.b31 k.b32 k.b33 k.second_order k.variant_2)) }
+        k.g11 k.g21 k.g32 k.g33 k.a22 k.b2 k.b31 k.b32 k.b33 (order_number k.second_order) (is_second k.variant))) }
 {
     let Point {
         n,
@@ -402,9 +416,9 @@ fn epirk5p(r: &Replay<'_>, k: Weights5p) -> Option<Reached>
         f0,
         ..
     } = r.point;
-    let k11 = r.phi_term(k.g11 * h, 1, k.g11 * h, f0)?;
-    let k21 = r.phi_term_if(1 <= r.count, k.g21 * h, 1, k.g21 * h, f0)?;
-    let k31 = r.phi_term_if(2 <= r.count, h, 1, h, f0)?;
+    let k11 = r.phi_term(k.g11 * h, One, k.g11 * h, f0)?;
+    let k21 = r.phi_term_if(1 <= r.count, k.g21 * h, One, k.g21 * h, f0)?;
+    let k31 = r.phi_term_if(2 <= r.count, h, One, h, f0)?;
     let tally = k11.tally.joined(k21.tally).joined(k31.tally);
     let u1 = add(u, k11.v, n);
     epirk5p_1(r, k, tally, k21.v, k31.v, u1)
@@ -419,7 +433,7 @@ fn epirk5p_1(
     u1: Vector,
 ) -> Option<Reached>
     ensures { stand result ≡ reached r.now 0 tally (epirk5p_1 r.now.point r.now.jacobian.now k21 k31 u1
-        k.g11 k.g21 k.g32 k.g33 k.a22 k.b2 k.b31 k.b32 k.b33 k.second_order k.variant_2) }
+        k.g11 k.g21 k.g32 k.g33 k.a22 k.b2 k.b31 k.b32 k.b33 (order_number k.second_order) (is_second k.variant)) }
 {
     let Point {
         n,
@@ -435,7 +449,7 @@ fn epirk5p_1(
     let r1 = r.remainder(u1, 0);
     let power = powi(k.g32 * h, k.second_order);
     let k2 = r.phi_term(k.g32 * h, k.second_order, power, r1)?;
-    let u2 = axpy(add(u, k21, n), k.a22 / divisor(k.variant_2, h), k2.v, n);
+    let u2 = axpy(add(u, k21, n), k.a22 / divisor(k.variant, h), k2.v, n);
     let tally = tally.joined(k2.tally);
     epirk5p_2(r, k, tally, k31, r1, k2.v, u2)
 }
@@ -450,7 +464,7 @@ fn epirk5p_2(
     u2: Vector,
 ) -> Option<Reached>
     requires { 1 ≤ r.now.count }
-    ensures { stand result ≡ reached r.now 1 tally (epirk5p_2 r.now.point r.now.jacobian.now k31 r1 k2 u2 k.g21 k.g33 k.b2 k.b31 k.b32 k.b33 k.variant_2) }
+    ensures { stand result ≡ reached r.now 1 tally (epirk5p_2 r.now.point r.now.jacobian.now k31 r1 k2 u2 k.g21 k.g33 k.b2 k.b31 k.b32 k.b33 (is_second k.variant)) }
 {
     let Point {
         n,
@@ -465,7 +479,7 @@ fn epirk5p_2(
     }
     let r2 = r.remainder(u2, 1);
     let dr = axpy(r2, -2.0, r1, n);
-    let output = axpy(add(u, k31, n), k.b2 / divisor(k.variant_2, h), k2, n);
+    let output = axpy(add(u, k31, n), k.b2 / divisor(k.variant, h), k2, n);
     epirk5p_end(r, k, tally, dr, output)
 }
 
@@ -478,19 +492,23 @@ fn epirk5p_end(
     output: Vector,
 ) -> Option<Reached>
     ensures { (count first : ℕ) (answers : List Float) → stand result ≡ in32 (under (report tally) (replay r.now.point.n
-        (epirk5p_end r.now.point.n r.now.jacobian.now r.now.point.step k.g33 k.b31 k.b32 k.b33 k.variant_2 dr output) count first answers)) }
+        (epirk5p_end r.now.point.n r.now.jacobian.now r.now.point.step k.g33 k.b31 k.b32 k.b33 (is_second k.variant) dr output) count first answers)) }
 {
     let Point { n, step: h, .. } = r.point;
     let g33h = k.g33 * h;
-    if k.variant_2 {
-        let s = after(output, k.b31 * g33h, r.phi_action(g33h, 1, dr)?, n);
-        let c2 = k.b32 / h * float::powi2(g33h);
-        let s = more(s, c2, r.phi_action(g33h, 2, dr)?, n);
-        let c3 = k.b33 / (h * h) * float::powi3(g33h);
-        let s = more(s, c3, r.phi_action(g33h, 3, dr)?, n);
-        return ended(tally.joined(s.tally), s.v, [0.0; PLACES]);
+    match k.variant {
+        Variant::P1 => {
+            let term = r.phi_term(g33h, Three, float::powi3(g33h), dr)?;
+            let s = after(output, k.b33 / (h * h), term, n);
+            ended(tally.joined(s.tally), s.v, [0.0; PLACES])
+        }
+        Variant::P2 => {
+            let s = after(output, k.b31 * g33h, r.phi_action(g33h, One, dr)?, n);
+            let c2 = k.b32 / h * float::powi2(g33h);
+            let s = more(s, c2, r.phi_action(g33h, Two, dr)?, n);
+            let c3 = k.b33 / (h * h) * float::powi3(g33h);
+            let s = more(s, c3, r.phi_action(g33h, Three, dr)?, n);
+            ended(tally.joined(s.tally), s.v, [0.0; PLACES])
+        }
     }
-    let term = r.phi_term(g33h, 3, float::powi3(g33h), dr)?;
-    let s = after(output, k.b33 / (h * h), term, n);
-    ended(tally.joined(s.tally), s.v, [0.0; PLACES])
 }

@@ -1,7 +1,6 @@
 -- Etd2's pass, where its first or its second exponential is not admitted: with a history and without. Assumes nothing.
-use Rattle.std.proofs.Common.{◌≡◌, ℕ, false, List, refl}
+use Rattle.std.proofs.Common.{◌≡◌, ℕ, false, List, refl, Float}
 use Rattle.std.specs.Prelude.{Option, Some, None}
-use lib.Ieee.{Float}
 use Rattle.methods.specs.Numbers.{num}
 use Rattle.methods.specs.Tally.{Tried}
 use Rattle.methods.specs.Phi.{more, phi_term, exp_action}

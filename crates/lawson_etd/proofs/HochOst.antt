@@ -1,9 +1,5 @@
 -- hoch_ost4's combinations, made of phi terms that are worked out. Assumes nothing.
-use Prim.Native.Nat.{ℕ}
-use mathlib.Core.Path.{◌≡◌}
-use mathlib.Core.Bool.{false}
-use mathlib.Core.List.{List}
-use lib.Ieee.{Float}
+use Rattle.std.proofs.Common.{ℕ, ◌≡◌, false, List, Float}
 use Rattle.float.specs.Arith.{◌⊘◌}
 use Rattle.methods.specs.Tally.{Tried}
 use Rattle.methods.specs.Numbers.{num}

@@ -1,27 +1,29 @@
 -- The augmented matrix by rows over +0.0, and what its row sums are. Assumes nothing.
-use Rattle.std.proofs.Common.{◌≡◌, ℕ, zero, suc, ◌+◌, ◌-◌, ◌*◌, ◌/◌, ◌%◌, ◌<◌, ◌≤◌, Bool, true, false, cond, ◌&&◌, eqb, ltb, ◌≢◌, List, length, set, replicate, sym, refl, ap, ◌∙◌, add-zero, add-suc, div-add-mod', arith, length-set, get_or-set_other, get_or-set_same, le-ltb, lt-ltb, eq-eqb, ne_eqb}
-use mathlib.Core.Bool.{and-true}
-use native.Mathlib.Nat.{sub_self}
-use native.Mathlib.Decide.{ℕ_discrete, dec_lt}
+use Rattle.std.proofs.Common.{◌≡◌, ℕ, zero, suc, ◌+◌, ◌-◌, ◌*◌, ◌/◌, ◌%◌, ◌<◌, ◌≤◌, Bool, true, false, cond, ◌&&◌, eqb, ltb, ◌≢◌, List, length, set, replicate, take, drop, fold, sym, refl, ap, ◌∙◌, add-zero, zero-add, add-suc, div-add-mod', arith, length-set, get_or-set_other, get_or-set_same, le-ltb, lt-ltb, eq-eqb, ne_eqb, Float, length-drop}
+use Rattle.std.proofs.Math.Bool.{and-true}
+use Rattle.std.proofs.Math.Nat.{sub_self}
+use Rattle.std.proofs.Math.Decide.{ℕ_discrete, dec_lt}
 use lib.Count.{count_trailing_zeros}
-use lib.Ieee.{Float, nan, le, lt, eq, add, sum, round, units, size, span, climb, of_bits, of_fields, odd}
-use lib.ListN.{length-replicate, get_or-replicate}
+use Rattle.std.specs.Float.Ieee.{nan, le, lt, eq, add, sum, round, units, size, span, climb, of_bits, of_fields, odd}
+use Rattle.std.proofs.Math.ListN.{length-replicate, get_or-replicate}
+use Rattle.std.proofs.Math.Seq.{length-take-le}
+use Rattle.std.proofs.lemmas.List.{get_or-take, get_or-drop}
 use Rattle.loops.specs.Loop.{iter, every, mat, stores, ◌!◌}
 use Rattle.loops.proofs.Loops.{every_ext, stores_step}
 use Rattle.loops.proofs.Stores.{is_tab, length-stores, stores_in, stores_out}
 use Rattle.loops.proofs.Places.{row_fits, row_below, column_below, place_row, mat_at, length-mat}
 use Rattle.float.specs.Arith.{◌⊕◌, ◌⊗◌, zero+, one, limit, finite, abs, sum_of}
-use Rattle.float.proofs.Sums.{sum_first, sum_step, sum_ext}
+use Rattle.float.proofs.Sums.{sum_first, sum_step, sum_ext, fold_sum}
 use Rattle.float.proofs.Same.{abs_sign, sum_rest}
 use Rattle.matrix.specs.Matrix.{at, row_sum, admitted}
 use Rattle.matrix.specs.Vector.{zeros}
 use Rattle.std.specs.Prelude.{Option, Some, None}
 use Rattle.methods.specs.declared.Action.{Action}
 use Rattle.methods.proofs.Made.{is_made, none_made}
-use Rattle.methods.specs.Tally.{Tried, tested, clean, single}
+use Rattle.methods.specs.Tally.{Tried, tested, clean}
 use Rattle.methods.proofs.Laws.{single_ok}
 use Rattle.methods.specs.Phi.{checked, over, nothing, augmented_entry, augmented, phi_action, phi_term}
-use Rattle.methods.specs.Parts.{input_row, rows_to, chained, admitted_sum, input_admitted, if_wanted, report, taken, made}
+use Rattle.methods.specs.Parts.{input_row, rows_to, chained, admitted_sum, input_admitted, if_wanted, taken, made}
 
 -- ---- a matrix is known by its entries
 is_mat : (n : ℕ) (f : ℕ → ℕ → Float) (l : List Float) → length l ≡ n * n → ((i j : ℕ) → i < n → j < n → l ! (i * n + j) ≡ f i j) → l ≡ mat n f
@@ -106,12 +108,14 @@ module _ (n : ℕ) (a : List Float) (c x : Float) (i from : ℕ) (e : from ≡ i
       → set p (to + n) x ≡ stores (λ j z. input_row n a c x i j) to (n + 1) o
   input_end to j o p h d = ap (set p (to + n)) input_last ∙ stores_step _ to n o p (rw h at d)
 
-  pub input_sum : (y : Float) → 0 < n → y ≡ abs (c ⊗ a ! from) → y ≡ sum_of 1 (λ j. abs (input_row n a c x i j))
-  input_sum y h d = sum_first _ y (d ∙ ap abs (ap (λ q. c ⊗ a ! q) (sym (add-zero from)) ∙ input_left 0 h))
-
-  pub input_more : (j : ℕ) (s y : Float) → 1 ≤ j → j < n → s ≡ sum_of j (λ j. abs (input_row n a c x i j)) → y ≡ abs (c ⊗ a ! (from + j))
-      → s ⊕ y ≡ sum_of (j + 1) (λ j. abs (input_row n a c x i j))
-  input_more j s y h l d w = sum_step _ j s y d (w ∙ ap abs (input_left j l)) h
+  pub input_fold : (k : ℕ) (s y : Float) → k + 1 ≡ n → from + n ≤ length a → y ≡ abs (c ⊗ a ! from)
+      → s ≡ fold (λ t v. t ⊕ abs (c ⊗ v)) y (take k (drop (from + 1) a)) → s ≡ sum_of n (λ j. abs (input_row n a c x i j))
+  input_fold k s y q b d f =
+      let l : length (take k (drop (from + 1) a)) ≡ k = length-take-le k (drop (from + 1) a) (rw length-drop (omega arith)) in
+      let at : (j : ℕ) → j < length (take k (drop (from + 1) a)) → abs (c ⊗ (take k (drop (from + 1) a) ! j)) ≡ abs (input_row n a c x i (suc j)) =
+      λ j m. ap (λ z. abs (c ⊗ z)) (get_or-take k (drop (from + 1) a) j nan (omega arith) ∙ get_or-drop (from + 1) a j nan ∙ ap (λ p. a ! p) (omega arith)) ∙ ap abs (input_left (suc j) (omega arith)) in
+      f ∙ ap (λ y. fold (λ t v. t ⊕ abs (c ⊗ v)) y (take k (drop (from + 1) a))) (sum_first _ y (d ∙ ap abs (ap (λ q. c ⊗ a ! q) (sym (add-zero from)) ∙ input_left 0 (omega arith))))
+      ∙ fold_sum _ _ 0 (take k (drop (from + 1) a)) (λ j m. rw zero-add (at j m)) ∙ ap (λ m. sum_of m (λ j. abs (input_row n a c x i j))) (omega (arith, l))
 
   pub input_tested : (j : ℕ) (s y : Float) (b : Bool) → 1 ≤ j → j ≡ n → s ≡ sum_of j (λ j. abs (input_row n a c x i j)) → y ≡ abs x → b ≡ finite (s ⊕ y)
       → (b && le (s ⊕ y) limit) ≡ admitted_sum (sum_of (n + 1) (λ j. abs (input_row n a c x i j)))

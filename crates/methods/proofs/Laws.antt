@@ -1,17 +1,22 @@
--- Places of a matrix, where the lent ones end, and what the exponentials' two outcomes are. Assumes nothing.
-use Rattle.std.proofs.Common.{◌≡◌, ℕ, zero, suc, ◌+◌, ◌-◌, ◌*◌, ◌/◌, ◌%◌, ◌<◌, ◌≤◌, Bool, true, false, cond, List, ◌∷◌, length, take, replicate, sym, refl, ap, ◌∙◌, not-suc-le-zero, mul-le-mul, div-add-mod', arith}
-use lib.Ieee.{Float, binary64, of_bits}
-use lib.ListN.{length-replicate}
-use Rattle.loops.specs.Loop.{mat, ◌!◌}
+-- Places of a matrix, what is lent, the orders, and what the exponentials' two outcomes are. Assumes nothing.
+use Rattle.std.proofs.Common.{◌≡◌, ℕ, zero, suc, ◌+◌, ◌-◌, ◌*◌, ◌/◌, ◌%◌, ◌<◌, ◌≤◌, Bool, true, false, cond, List, ◌∷◌, length, take, replicate, map, sym, refl, ap, ◌∙◌, not-suc-le-zero, mul-le-mul, div-add-mod', arith, Float, ◌&&◌}
+use Rattle.std.specs.List.{list_all, range_with_len}
+use Rattle.std.proofs.lemmas.List.Folds.{list_all-append, list_all-map}
+use Rattle.std.proofs.lemmas.List.FromFn.{map-range_with_len_more}
+use Rattle.std.proofs.Math.Bool.{and-true}
+use Rattle.loops.specs.Loop.{mat, every, ◌!◌}
 use Rattle.loops.proofs.Places.{row_fits}
-use Rattle.float.specs.Arith.{◌⊗◌, zero+}
+use Rattle.float.specs.Arith.{◌⊗◌}
 use Rattle.matrix.specs.declared.Reach.{Reach}
 use Rattle.matrix.specs.Matrix.{at, admitted, exponential, reach}
 use Rattle.matrix.specs.Calls.{Filled}
-use Rattle.matrix.specs.Vector.{zeros, vec, mat_vec}
+use Rattle.matrix.specs.Vector.{vec, mat_vec}
 use Rattle.std.specs.Prelude.{Option, Some, None, is_some}
 use Rattle.methods.specs.declared.Tally.{Tally}
 use Rattle.methods.specs.declared.Action.{Action}
+use Rattle.methods.specs.declared.order.Order.{Order}
+use Rattle.methods.specs.declared.order.Order.TheVariants.{One, Two, Three, Four}
+use Rattle.methods.specs.Order.{order_number}
 use Rattle.methods.specs.Vectors.{Sized}
 use Rattle.methods.specs.Tally.{single}
 use Rattle.methods.specs.Phi.{checked, augmented_entry, augmented, phi_action, exp_action}
@@ -26,24 +31,33 @@ scale_at c a n p = ap (λ q. c ⊗ a ! q) (sym (div-add-mod' p n))
 pub row_inside : {n : ℕ} {a : List Float} → Sized n a → (i : ℕ) → i < n → (i * n + n ≤ length a) × (length a ≤ 256)
 row_inside {n} s i h = (rw s.square (row_fits i n h), rw s.square (mul-le-mul s.small s.small))
 
+-- the library's test of each number below n
+pub all_below : (test : ℕ → Bool) (n : ℕ) → list_all test (range_with_len 0 n) ≡ every n test
+unfolding every
+all_below test n = sym (list_all-map (λ b. b) test (range_with_len 0 n)) ∙ go n
+  where
+    kept : ℕ → Bool
+    kept k = list_all (λ b. b) (map test (range_with_len 0 k))
+
+    one_more : (k m : ℕ) → m ≡ k + 1 → kept m ≡ (kept k && test k)
+    one_more k m e = rw (e, map-range_with_len_more test 0 k k (omega arith), list_all-append, and-true)
+
+    go : (k : ℕ) → kept k ≡ every k test
+    go zero = refl
+    go (suc k) = one_more k (suc k) (omega arith) ∙ rw (go k)
+
+-- an order is at least 1
+pub order_some : (order : Order) → 1 ≤ order_number order
+order_some One = omega arith
+order_some Two = omega arith
+order_some Three = omega arith
+order_some Four = omega arith
+
 -- ---- a class of room, of sizes up to w
 pub take-replicate : (k n : ℕ) (x : Float) → k ≤ n → take k (replicate n x) ≡ replicate k x
 take-replicate zero n x h = refl
 take-replicate (suc k) zero x h = absurd (not-suc-le-zero h)
 take-replicate (suc k) (suc n) x h = ap (λ l. x ∷ l) (take-replicate k n x (omega arith))
-
-module _ {s w : ℕ} (h : s ≤ w) where
-  pub lent_fits : s * s ≤ w * w
-  lent_fits = mul-le-mul h h
-
-  lent : take (s * s) (replicate (w * w) zero+) ≡ replicate (s * s) zero+
-  lent = take-replicate (s * s) (w * w) zero+ lent_fits
-
-  lent_length : length (take (s * s) (replicate (w * w) zero+)) ≡ s * s
-  lent_length = ap length lent ∙ length-replicate (s * s) zero+
-
-  pub lent_count : s * s ≡ length (take (s * s) (replicate (w * w) zero+))
-  lent_count = sym lent_length
 
 -- ---- the two outcomes of an exponential
 

@@ -1,6 +1,5 @@
 -- Replaying a pass line by line: S is where the code's record stands, and b what the exponentials have reported so far. Assumes nothing.
-use Rattle.std.proofs.Common.{◌≡◌, ℕ, zero, suc, ◌+◌, ◌-◌, ◌<◌, Bool, true, false, cond, ◌&&◌, leb, List, sym, refl, ap, ◌∙◌, add-zero, arith, leb-false}
-use lib.Ieee.{Float}
+use Rattle.std.proofs.Common.{◌≡◌, ℕ, zero, suc, ◌+◌, ◌-◌, ◌<◌, Bool, true, false, cond, ◌&&◌, leb, List, sym, refl, ap, ◌∙◌, add-zero, arith, leb-false, Float}
 use Rattle.float.specs.Arith.{finite}
 use Rattle.evaluation.specs.Evaluation.{all_finite}
 use Rattle.std.specs.Prelude.{Option, Some, None}

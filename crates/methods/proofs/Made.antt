@@ -1,9 +1,9 @@
 -- The code's actions, and the definitions' actions with their reports. Assumes nothing.
-use Rattle.std.proofs.Common.{◌≡◌, Bool, true, false, cond, sym, refl, ◌∙◌}
+use Rattle.std.proofs.Common.{◌≡◌, Bool, true, false, cond, sym, refl}
 use Rattle.std.specs.Prelude.{Option, Some, None}
 use Rattle.methods.specs.declared.Action.{Action}
 use Rattle.methods.specs.Tally.{Tried}
-use Rattle.methods.specs.Parts.{report, counts, taken, made}
+use Rattle.methods.specs.Parts.{counts, taken, made}
 
 -- an action that is what there is of p
 pub is_made : (k : Action) (p : Tried) → taken k ≡ p → Some k ≡ made p

@@ -1,10 +1,9 @@
 -- The shape of the sixteen passes, and how many exponentials they make, by one walk over their trees. Assumes nothing.
-use Rattle.std.proofs.Common.{◌≡◌, ℕ, zero, suc, ◌+◌, ◌-◌, ◌<◌, ◌≤◌, Bool, true, false, cond, ◌&&◌, leb, List, [], ◌∷◌, get_or, refl, subst, add-zero, add_assoc, zero-add, arith, leb-true}
-use mathlib.Core.Bool.{false≢true}
-use native.Mathlib.Nat.{sub-zero}
-use lib.Ieee.{Float}
+use Rattle.std.proofs.Common.{◌≡◌, ℕ, zero, suc, ◌+◌, ◌-◌, ◌<◌, ◌≤◌, Bool, true, false, cond, ◌&&◌, leb, List, [], ◌∷◌, get_or, refl, subst, add-zero, add_assoc, zero-add, arith, leb-true, Float}
+use Rattle.std.proofs.Math.Bool.{false≢true}
+use Rattle.std.proofs.Math.Nat.{sub-zero}
 use Rattle.std.specs.Prelude.{Option, Some, None, is_some, IfSome}
-use lib.ListN.{get_or-eq_default}
+use Rattle.std.proofs.Math.ListN.{get_or-eq_default}
 use Rattle.loops.proofs.Bools.{both_true}
 use Rattle.loops.specs.Loop.{mat}
 use Rattle.float.specs.Arith.{◌⊗◌, finite}

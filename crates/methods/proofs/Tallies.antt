@@ -1,17 +1,13 @@
 -- Laws of reports: how they join, and their counts as 32 bits hold them. Assumes nothing.
-use Rattle.std.proofs.Common.{◌≡◌, ℕ, ◌+◌, ◌%◌, ◌^◌, ◌<◌, Bool, true, false, cond, ◌&&◌, List, sym, refl, ap, ◌∙◌, add-zero, add_assoc, mod-eq_of_lt, zero-add}
-use mathlib.Core.Bool.{and_assoc}
-use native.Mathlib.Nat.{mod-add-mod, add-mod-mod, mod-mod}
-use Rattle.std.specs.Prelude.{Some, None}
-use lib.Ieee.{Float}
+use Rattle.std.proofs.Common.{◌≡◌, ℕ, ◌+◌, ◌%◌, ◌^◌, ◌<◌, Bool, true, false, cond, ◌&&◌, List, sym, refl, ap, ◌∙◌, add_assoc, mod-eq_of_lt, zero-add, Float}
+use Rattle.std.proofs.Math.Bool.{and_assoc}
+use Rattle.std.proofs.Math.Nat.{mod-add-mod, add-mod-mod, mod-mod}
 use Rattle.methods.specs.declared.Tally.{Tally}
 use Rattle.methods.specs.declared.Work.{Work}
-use Rattle.methods.specs.declared.Reached.TheVariants.{Question, End}
-use Rattle.methods.specs.declared.StepResult.TheVariants.{Question as Question', Done}
 use Rattle.methods.specs.Tally.{Report, Tried, tested, clean, joined, work_of}
 use Rattle.methods.specs.Phi.{more}
-use Rattle.methods.specs.Parts.{word, narrow, narrowed, narrow_work, in32, counted_in32, report, stand}
-use Rattle.methods.specs.Step.{refused, ended, finish, progress}
+use Rattle.methods.specs.Parts.{word, narrow, narrowed, narrow_work, in32, counted_in32, report}
+use Rattle.methods.specs.Step.{ended, finish}
 use Rattle.methods.specs.Pass.{Stand, fails, asks, ends, counting, under}
 
 -- ---- joining
@@ -59,12 +55,6 @@ pub under-joined : (x y : Report) (s : Stand) → under (joined x y) s ≡ under
 unfolding under joined
 under-joined x y s = unfold joined in both_under x.ok y.ok x y s
 
--- a test, of no exponential
-pub under_test : (c : Bool) (s : Stand) → under (tested c) s ≡ cond c s fails
-unfolding clean
-under_test true s = under-clean s
-under_test false s = unfold under tested in refl
-
 -- ---- counts as 32 bits hold them
 
 word-left : (a b : ℕ) → word (word a + b) ≡ word (a + b)
@@ -102,12 +92,6 @@ pub held_alike : (b c : Report) (s : Stand) → narrow b ≡ narrow c → in32 (
 held_alike b c s e = sym (held_narrow b s) ∙ ap (λ t. in32 (under t s)) e ∙ held_narrow c s
 
 -- ---- the records as the code makes them
-
--- two reports, each sum as 32 bits hold it
-pub joined_is : (x y : Report) (e t s : ℕ) → e ≡ (x.exponentials + y.exponentials) % 2 ^ 32 → t ≡ (x.terms + y.terms) % 2 ^ 32 → s ≡ (x.squarings + y.squarings) % 2 ^ 32
-    → record { ok = x.ok && y.ok; exponentials = e; terms = t; squarings = s } ≡ narrow (joined x y)
-unfolding narrow joined word
-joined_is x y e t s p q r = rw (p, q, r)
 
 -- a count of 32 bits is what they hold
 pub word_is : (k : ℕ) → k < 2 ^ 32 → word k ≡ k

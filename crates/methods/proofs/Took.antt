@@ -1,7 +1,7 @@
 -- What an exponential takes at the most, and each action of the schemes. Assumes nothing.
-use Rattle.std.proofs.Common.{◌≡◌, ℕ, zero, suc, ◌+◌, ◌*◌, ◌<◌, ◌≤◌, Bool, true, false, cond, T, eqb, ltb, List, [], ◌∷◌, refl, mul-add, arith, lit≤, ltb-true}
+use Rattle.std.proofs.Common.{◌≡◌, ℕ, zero, suc, ◌+◌, ◌*◌, ◌<◌, ◌≤◌, Bool, true, false, cond, T, eqb, ltb, List, [], ◌∷◌, refl, mul-add, arith, lit≤, ltb-true, Float}
 use Rattle.std.specs.Prelude.{Some, None}
-use lib.Ieee.{Float, binary64, fits, of_bits, of_fields, odd}
+use Rattle.std.specs.Float.Ieee.{binary64, fits, of_bits, of_fields, odd}
 use lib.Ieee.Fits.{add-fits, sub-fits, mul-fits, cond-fits}
 use lib.Count.{count_trailing_zeros}
 use Rattle.loops.specs.Loop.{mat, ◌!◌}

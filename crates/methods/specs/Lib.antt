@@ -8,4 +8,5 @@ pub mod Schemes
 pub mod Step
 pub mod Parts
 pub mod Scheme
+pub mod Order
 pub mod Shape

@@ -3,7 +3,6 @@ use Rattle.std.specs.Prelude.{ℕ, zero, suc, ◌+◌, ◌-◌, ◌*◌, ◌%◌
 use Rattle.std.specs.Float.Ieee.{le}
 use Rattle.loops.specs.Loop.{iter, every, mat, ◌!◌}
 use Rattle.float.specs.Arith.{◌⊗◌, zero+, one, limit, finite, abs, sum_of}
-use Rattle.evaluation.specs.Evaluation.{all_finite}
 use Rattle.matrix.specs.Matrix.{at, exponential, reach}
 use Rattle.matrix.specs.Vector.{zeros, vec}
 use Rattle.methods.specs.declared.Work.{Work}

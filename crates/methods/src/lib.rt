@@ -3,21 +3,25 @@
 // `lawson_etd`, `exp4_epirk` and `rosenbrock`, and perform_step in `schemes`.
 #![tactic(auto)]
 
-ghost use Rattle.std.specs.Prelude.{◌≡◌, cond, ◌&&◌, Some, [], ◌∷◌};
+ghost use Rattle.std.specs.Prelude.{◌≡◌, ◌<◌, cond, ◌&&◌, Some, [], ◌∷◌};
 ghost use Rattle.float.specs.Arith.{finite};
 ghost use Rattle.evaluation.specs.Evaluation.{all_finite};
+ghost use Rattle.evaluation.specs.Sizes.{answers_kept};
 ghost use Rattle.methods.specs.Vectors.{add, subtract, scale, axpy, combine};
 ghost use Rattle.methods.specs.Tally.{clean, joined, single, work_of};
 ghost use Rattle.methods.specs.Phi.{over, more, nothing};
-ghost use Rattle.methods.specs.Pass.{asks, ends, fails};
+ghost use Rattle.methods.specs.Pass.{answer, asks, ends, fails};
 ghost use Rattle.methods.specs.Parts.{narrow, narrowed, narrow_work, report, taken, stand};
 
+mod order;
 mod replay;
 mod scheme;
 mod square;
 
+use evaluation::ROOM;
 pub use matrix::Dimension;
 use matrix::{Reach, vector};
+pub use order::{Order, UnknownOrder};
 pub use replay::Replay;
 pub use scheme::{ETD2, EXPRB32, EXPRB43, Scheme, UnknownScheme};
 pub use square::Square;
@@ -77,18 +81,21 @@ pub enum StepResult {
 
 // ---- vectors
 
+#[tactic(auto, unfolding(crate::specs::Vectors::add))]
 pub fn add(left: Vector, right: Vector, n: Dimension) -> Vector
     ensures { result ≡ add n left right }
 {
     vector(n, |i| left[i] + right[i])
 }
 
+#[tactic(auto, unfolding(crate::specs::Vectors::subtract))]
 pub fn subtract(left: Vector, right: Vector, n: Dimension) -> Vector
     ensures { result ≡ subtract n left right }
 {
     vector(n, |i| left[i] - right[i])
 }
 
+#[tactic(auto, unfolding(crate::specs::Vectors::scale))]
 pub fn scale(x: Vector, factor: f64, n: Dimension) -> Vector
     ensures { result ≡ scale n x factor }
 {
@@ -96,13 +103,26 @@ pub fn scale(x: Vector, factor: f64, n: Dimension) -> Vector
 }
 
 // What the Rust's axpy leaves in its output.
+#[tactic(auto, unfolding(crate::specs::Vectors::axpy))]
 pub fn axpy(output: Vector, factor: f64, input: Vector, n: Dimension) -> Vector
     ensures { result ≡ axpy n output factor input }
 {
     vector(n, |i| output[i] + factor * input[i])
 }
 
+// The j-th answer, its first n places.
+#[tactic(auto, unfolding(crate::specs::Pass::answer))]
+pub fn evaluated(answers: &[f64; ROOM], j: usize, n: Dimension) -> Vector
+    requires { j < answers_kept }
+    ensures { result ≡ answer n answers.now j }
+{
+    let at = PLACES * j;
+    vector(n, |i| answers[at + i])
+}
+
 // combine of two terms.
+// Kept: two sums that are a line each; one over an array of terms would build it at each call.
+#[tactic(auto, unfolding(crate::specs::Vectors::axpy_all, crate::specs::Vectors::combine, matrix::specs::Vector::zeros))]
 pub fn combine2(c1: f64, x1: Vector, c2: f64, x2: Vector, n: Dimension) -> Vector
     ensures { result ≡ combine n ((c1, x1) ∷ (c2, x2) ∷ []) }
 {
@@ -110,6 +130,7 @@ pub fn combine2(c1: f64, x1: Vector, c2: f64, x2: Vector, n: Dimension) -> Vecto
 }
 
 // combine of three terms.
+#[tactic(auto, unfolding(crate::specs::Vectors::axpy_all, crate::specs::Vectors::combine, matrix::specs::Vector::zeros))]
 pub fn combine3(
     c1: f64,
     x1: Vector,
@@ -128,6 +149,7 @@ pub fn combine3(
 
 impl Tally {
     // Of none.
+    #[tactic(auto, unfolding(crate::specs::Tally::clean, crate::specs::Tally::tested))]
     pub fn none() -> Tally
         ensures { report result ≡ clean }
     {
@@ -139,6 +161,7 @@ impl Tally {
     }
 
     // Of one that went so far.
+    #[tactic(auto, unfolding(crate::specs::Tally::single))]
     fn single(reach: Reach) -> Tally
         ensures { report result ≡ single (Some reach) }
     {
@@ -150,6 +173,7 @@ impl Tally {
     }
 
     // Of both; their sums as 32 bits hold them.
+    #[tactic(auto, unfolding(crate::specs::Tally::joined, crate::specs::Parts::narrow, crate::specs::Parts::word))]
     pub fn joined(self, other: Tally) -> Tally
         ensures { report result ≡ narrow (joined (report self) (report other)) }
     {
@@ -174,6 +198,7 @@ impl Tally {
 // ---- the parts of a pass
 
 // u plus a vector.
+#[tactic(auto, unfolding(crate::specs::Phi::over))]
 pub fn added(u: Vector, k: Action, n: Dimension) -> Action
     ensures { taken result ≡ over (add n u) (taken k) }
 {
@@ -184,6 +209,7 @@ pub fn added(u: Vector, k: Action, n: Dimension) -> Action
 }
 
 // x plus factor times a vector.
+#[tactic(auto, unfolding(crate::specs::Phi::over))]
 pub fn after(x: Vector, factor: f64, k: Action, n: Dimension) -> Action
     ensures { taken result ≡ over (axpy n x factor) (taken k) }
 {
@@ -194,6 +220,7 @@ pub fn after(x: Vector, factor: f64, k: Action, n: Dimension) -> Action
 }
 
 // factor times a vector.
+#[tactic(auto, unfolding(crate::specs::Phi::over))]
 pub fn scaled(k: Action, factor: f64, n: Dimension) -> Action
     ensures { taken result ≡ over (λ x. scale n x factor) (taken k) }
 {
@@ -204,6 +231,7 @@ pub fn scaled(k: Action, factor: f64, n: Dimension) -> Action
 }
 
 // sum plus factor times k.
+#[tactic(auto, unfolding(crate::specs::Phi::more, crate::specs::Parts::narrowed))]
 pub fn more(sum: Action, factor: f64, k: Action, n: Dimension) -> Action
     ensures { taken result ≡ narrowed (more n (taken sum) factor (taken k)) }
 {
@@ -214,6 +242,7 @@ pub fn more(sum: Action, factor: f64, k: Action, n: Dimension) -> Action
 }
 
 // +0.0, of no exponential.
+#[tactic(auto, unfolding(crate::specs::Phi::nothing, matrix::specs::Vector::zeros))]
 pub fn nothing() -> Action
     ensures { taken result ≡ nothing }
 {
@@ -224,6 +253,7 @@ pub fn nothing() -> Action
 }
 
 // A question, if its state and its time are finite.
+#[tactic(auto, unfolding(crate::specs::Parts::stand))]
 pub fn asked(x: Vector, time: f64) -> Option<Reached>
     ensures { stand result ≡ cond (all_finite x && finite time) (asks x time) fails }
 {
@@ -234,6 +264,7 @@ pub fn asked(x: Vector, time: f64) -> Option<Reached>
 }
 
 // The end, if the candidate and the error vector are finite.
+#[tactic(auto, unfolding(crate::specs::Parts::stand))]
 pub fn ended(tally: Tally, x: Vector, e: Vector) -> Option<Reached>
     ensures { stand result ≡ cond (all_finite x && all_finite e) (ends x e (narrow (report tally))) fails }
 {

@@ -6,12 +6,12 @@ ghost use Rattle.methods.specs.Numbers.{num, minus};
 ghost use Rattle.methods.specs.Vectors.{Sized, subtract, axpy};
 
 use crate::square::Square;
-use crate::{Action, PLACES, Point, Vector, axpy, more, subtract};
+use crate::{Action, Order, Point, Vector, axpy, evaluated, more, subtract};
 use evaluation::ROOM;
-use matrix::vector;
 
 // What a scheme is given: a point, a Jacobian of its dimension, and how many answers there are, the first of them
 // at the place `first`: a differenced Jacobian takes at most one for each place.
+// Kept: the answers as a session keeps them, with the place of the first and how many there are: the definitions of a pass go by these numbers, and rows of sixteen would turn every law of theirs.
 #[derive(Clone, Copy)]
 pub struct Replay<'a> {
     pub point: Point,
@@ -24,6 +24,7 @@ pub struct Replay<'a> {
 }
 
 impl<'a> Replay<'a> {
+    ghost use Rattle.methods.specs.Order.{order_number};
     ghost use Rattle.methods.specs.Phi.{more, phi_action, phi_term, exp_action};
     ghost use Rattle.methods.specs.Pass.{answer};
     ghost use Rattle.methods.specs.Parts.{if_wanted, narrowed, taken, made};
@@ -45,22 +46,22 @@ impl<'a> Replay<'a> {
         matrix::mat_vec(self.jacobian, x, self.point.n.get())
     }
 
+    // Kept: this and the four below hand on to Square's in the words of the point; with square() at each call, its n would each time have to be taken to be the point's.
     pub fn exp_action(&self, scale_a: f64, input: Vector) -> Option<Action>
         ensures { result ≡ made (exp_action self.now.point.n self.now.jacobian.now scale_a input) }
     {
         self.square().exp_action(scale_a, input)
     }
 
-    pub fn phi_action(&self, scale_a: f64, order: usize, input: Vector) -> Option<Action>
-        requires { (1 ≤ order) × (order ≤ 4) }
-        ensures { result ≡ made (phi_action self.now.point.n self.now.jacobian.now scale_a order input) }
+    pub fn phi_action(&self, scale_a: f64, order: Order, input: Vector) -> Option<Action>
+        ensures { result ≡ made (phi_action self.now.point.n self.now.jacobian.now scale_a (order_number order) input) }
     {
         self.square().phi_action(scale_a, order, input)
     }
 
-    pub fn phi_if(&self, wanted: bool, scale_a: f64, order: usize, input: Vector) -> Option<Action>
-        requires { (1 ≤ order) × (order ≤ 4) }
-        ensures { result ≡ made (if_wanted wanted (phi_action self.now.point.n self.now.jacobian.now scale_a order input)) }
+    // Kept: `wanted`, here and in phi_term_if, is the condition of the call, of which see Square's.
+    pub fn phi_if(&self, wanted: bool, scale_a: f64, order: Order, input: Vector) -> Option<Action>
+        ensures { result ≡ made (if_wanted wanted (phi_action self.now.point.n self.now.jacobian.now scale_a (order_number order) input)) }
     {
         self.square().phi_if(wanted, scale_a, order, input)
     }
@@ -68,12 +69,11 @@ impl<'a> Replay<'a> {
     pub fn phi_term(
         &self,
         scale_a: f64,
-        order: usize,
+        order: Order,
         coefficient: f64,
         input: Vector,
     ) -> Option<Action>
-        requires { (1 ≤ order) × (order ≤ 4) }
-        ensures { result ≡ made (phi_term self.now.point.n self.now.jacobian.now scale_a order coefficient input) }
+        ensures { result ≡ made (phi_term self.now.point.n self.now.jacobian.now scale_a (order_number order) coefficient input) }
     {
         self.square().phi_term(scale_a, order, coefficient, input)
     }
@@ -82,12 +82,11 @@ impl<'a> Replay<'a> {
         &self,
         wanted: bool,
         scale_a: f64,
-        order: usize,
+        order: Order,
         coefficient: f64,
         input: Vector,
     ) -> Option<Action>
-        requires { (1 ≤ order) × (order ≤ 4) }
-        ensures { result ≡ made (if_wanted wanted (phi_term self.now.point.n self.now.jacobian.now scale_a order coefficient input)) }
+        ensures { result ≡ made (if_wanted wanted (phi_term self.now.point.n self.now.jacobian.now scale_a (order_number order) coefficient input)) }
     {
         self.square()
             .phi_term_if(wanted, scale_a, order, coefficient, input)
@@ -99,28 +98,27 @@ impl<'a> Replay<'a> {
         sum: Action,
         factor: f64,
         scale_a: f64,
-        order: usize,
+        order: Order,
         coefficient: f64,
         input: Vector,
     ) -> Option<Action>
-        requires { (1 ≤ order) × (order ≤ 4) }
-        ensures { result ≡ made (narrowed (more self.now.point.n (taken sum) factor (phi_term self.now.point.n self.now.jacobian.now scale_a order coefficient input))) }
+        ensures { result ≡ made (narrowed (more self.now.point.n (taken sum) factor (phi_term self.now.point.n self.now.jacobian.now scale_a (order_number order) coefficient input))) }
     {
         let term = self.phi_term(scale_a, order, coefficient, input)?;
         Some(more(sum, factor, term, self.point.n))
     }
 
     // The j-th answer, its first n places.
+    // Kept: j < 4, here and in the two below, is plain at each call, where j is written out; a type of four numbers would be made of each.
     pub fn evaluated(&self, j: usize) -> Vector
         requires { j < 4 }
         ensures { result ≡ answer self.now.point.n self.now.answers.now (self.now.first + j) }
     {
-        let at = PLACES * (self.first + j);
-        let answers = self.answers;
-        vector(self.point.n, |i| answers[at + i])
+        evaluated(self.answers, self.first + j, self.point.n)
     }
 
     // What shifted_stage makes of the j-th answer.
+    #[tactic(auto, unfolding(crate::specs::Numbers::numbers))]
     pub fn shifted_stage(&self, stage: Vector, au: Vector, j: usize) -> Vector
         requires { j < 4 }
         ensures { result ≡ axpy self.now.point.n (axpy self.now.point.n (answer self.now.point.n self.now.answers.now (self.now.first + j)) (minus 1)
@@ -136,6 +134,7 @@ impl<'a> Replay<'a> {
     }
 
     // What remainder makes of the j-th answer, between the stage and the state.
+    #[tactic(auto, unfolding(crate::specs::Numbers::numbers))]
     pub fn remainder(&self, stage: Vector, j: usize) -> Vector
         requires { j < 4 }
         ensures { result ≡ axpy self.now.point.n (axpy self.now.point.n (answer self.now.point.n self.now.answers.now (self.now.first + j)) (minus 1) self.now.point.f0) (minus 1)

@@ -75,6 +75,7 @@ impl From<Scheme> for u8 {
 }
 
 // The schemes that are named elsewhere: one remembers, two have an error vector.
+// Kept: numbers, since they are compared with a session's scheme, which may be any.
 pub const ETD2: u8 = Scheme::Etd2 as u8;
 
 pub const EXPRB32: u8 = Scheme::Exprb32 as u8;

@@ -5,10 +5,11 @@ ghost use Rattle.loops.specs.Loop.{mat, stores};
 ghost use Rattle.matrix.specs.Matrix.{at};
 ghost use Rattle.matrix.specs.Vector.{vec};
 ghost use Rattle.methods.specs.Vectors.{Sized};
+ghost use Rattle.methods.specs.Order.{order_number};
 ghost use Rattle.methods.specs.Phi.{augmented_entry, phi_action, phi_term, exp_action};
 ghost use Rattle.methods.specs.Parts.{input_row, rows_to, chained, phi_into, admitted_sum, input_admitted, if_wanted, made};
 
-use crate::{Action, Dimension, Tally, Vector, nothing, scaled};
+use crate::{Action, Dimension, Order, Tally, Vector, nothing, scaled};
 use matrix::vector;
 
 // A matrix of a dimension from 1 to 16, row by row.
@@ -20,6 +21,7 @@ pub struct Square<'a> {
 }
 
 // Ones above the diagonal, behind the input column.
+// Kept, as are the loops of the two methods of rows below: over an iter_mut with step_by, zip or chunks an invariant cannot name what was written.
 fn chain(n: usize, out: &mut [f64], size: usize)
     requires { (n < size) × (size ≤ 20) × (length out.old ≡ size * size) }
     ensures { out.new ≡ chained n size (size - 1 - n) out.old }
@@ -38,6 +40,7 @@ fn column_of(e: &[f64], size: usize, column: usize, n: Dimension) -> Vector
     vector(n, |i| e[i * size + column])
 }
 
+// Kept: scale_a, order and input are the published functions' own parameters; a struct of the three would be made at each of ninety calls of the schemes and be read once.
 impl Square<'_> {
     // Row i of scale_a times the matrix, with the input behind it, at the place `to`.
     fn augmented_row(&self, scale_a: f64, input: f64, i: usize, out: &mut [f64], to: usize)
@@ -121,11 +124,10 @@ impl Square<'_> {
 
     // The first n entries of the last column of the augmented matrix's exponential; none where it is not admitted.
     // The room that is lent is no larger than its size class.
-    pub fn phi_action(&self, scale_a: f64, order: usize, input: Vector) -> Option<Action>
-        requires { (1 ≤ order) × (order ≤ 4) }
-        ensures { result ≡ made (phi_action self.now.n self.now.entries.now scale_a order input) }
+    pub fn phi_action(&self, scale_a: f64, order: Order, input: Vector) -> Option<Action>
+        ensures { result ≡ made (phi_action self.now.n self.now.entries.now scale_a (order_number order) input) }
     {
-        let size = self.n.get() + order;
+        let size = self.n.get() + usize::from(order);
         if size <= 4 {
             return self.phi_in::<16>(scale_a, input, size);
         }
@@ -145,10 +147,10 @@ impl Square<'_> {
     {
         let n = self.n.get();
         let row = i * n;
-        let mut sum = float::abs(scale_a * self.entries[row]);
-        for j in 1..n {
-            sum = sum + float::abs(scale_a * self.entries[row + j]);
-        }
+        let first = float::abs(scale_a * self.entries[row]);
+        let sum = self.entries[row + 1..row + n]
+            .iter()
+            .fold(first, |sum, x| sum + float::abs(scale_a * x));
         let sum = sum + float::abs(input);
         float::finite(sum) & (sum <= matrix::LIMIT)
     }
@@ -157,17 +159,13 @@ impl Square<'_> {
     fn admits(&self, scale_a: f64, input: Vector) -> bool
         ensures { result ≡ input_admitted self.now.n self.now.entries.now scale_a input }
     {
-        let mut ok = true;
-        for i in 0..self.n.get() {
-            ok = ok & self.admitted_row(scale_a, input[i], i);
-        }
-        ok
+        (0..self.n.get()).all(|i| self.admitted_row(scale_a, input[i], i))
     }
 
     // The phi action where it is wanted; otherwise, where it is admitted, nothing in its place.
-    pub fn phi_if(&self, wanted: bool, scale_a: f64, order: usize, input: Vector) -> Option<Action>
-        requires { (1 ≤ order) × (order ≤ 4) }
-        ensures { result ≡ made (if_wanted wanted (phi_action self.now.n self.now.entries.now scale_a order input)) }
+    // Kept: `wanted` is the condition of the call, that an answer past the action is there; an `if` at each of the ten calls would write the action twice.
+    pub fn phi_if(&self, wanted: bool, scale_a: f64, order: Order, input: Vector) -> Option<Action>
+        ensures { result ≡ made (if_wanted wanted (phi_action self.now.n self.now.entries.now scale_a (order_number order) input)) }
     {
         if wanted {
             return self.phi_action(scale_a, order, input);
@@ -181,12 +179,11 @@ impl Square<'_> {
     pub fn phi_term(
         &self,
         scale_a: f64,
-        order: usize,
+        order: Order,
         coefficient: f64,
         input: Vector,
     ) -> Option<Action>
-        requires { (1 ≤ order) × (order ≤ 4) }
-        ensures { result ≡ made (phi_term self.now.n self.now.entries.now scale_a order coefficient input) }
+        ensures { result ≡ made (phi_term self.now.n self.now.entries.now scale_a (order_number order) coefficient input) }
     {
         let action = self.phi_action(scale_a, order, input)?;
         Some(scaled(action, coefficient, self.n))
@@ -197,12 +194,11 @@ impl Square<'_> {
         &self,
         wanted: bool,
         scale_a: f64,
-        order: usize,
+        order: Order,
         coefficient: f64,
         input: Vector,
     ) -> Option<Action>
-        requires { (1 ≤ order) × (order ≤ 4) }
-        ensures { result ≡ made (if_wanted wanted (phi_term self.now.n self.now.entries.now scale_a order coefficient input)) }
+        ensures { result ≡ made (if_wanted wanted (phi_term self.now.n self.now.entries.now scale_a (order_number order) coefficient input)) }
     {
         if wanted {
             return self.phi_term(scale_a, order, coefficient, input);
@@ -215,8 +211,8 @@ impl Square<'_> {
         requires { length out.old ≡ self.now.n * self.now.n }
         ensures { out.new ≡ mat self.now.n (λ i j. scale_a ⊗ at self.now.entries.now self.now.n i j) }
     {
-        for p in 0..out.len() {
-            out[p] = scale_a * self.entries[p];
+        for (p, x) in out.iter_mut().enumerate() {
+            *x = scale_a * self.entries[p];
         }
     }
 

@@ -2,6 +2,8 @@
 // error vector. A pass is replayed over the answers so far: a scheme works out the state of its first
 // question, and a function for each question takes the pass up there. A phi action that the question to
 // come does not use is only tested.
+// Kept: a part takes what it needs of the parts before it, by the scheme's own names, and says what that is and how many answers there are; a struct for each part would be made once and read once.
+// au stays beside r: it is a Replay's own product with its state, and a Replay that has it would be a second struct of the same fields.
 #![tactic(auto)]
 
 ghost use Rattle.std.specs.Prelude.{◌≡◌, ◌≤◌};
@@ -10,6 +12,7 @@ ghost use Rattle.methods.specs.Parts.{in32, stand, replay_from, reached};
 ghost use Rattle.methods.specs.Schemes.{exprb32, exprb43, exprb53s3};
 ghost use Rattle.rosenbrock.specs.Stages.{exprb32_2, exprb43_2, exprb43_3, exprb53s3_2, exprb53s3_3};
 
+use methods::Order::{Four, One, Three};
 use methods::{
     PLACES, Point, Reached, Replay, Tally, Vector, add, after, asked, axpy, combine2, ended, scale,
 };
@@ -28,7 +31,7 @@ pub fn exprb32(r: &Replay<'_>, au: Vector) -> Option<Reached>
         f0: f1,
         ..
     } = r.point;
-    let k1 = r.phi_action(h, 1, f1)?;
+    let k1 = r.phi_action(h, One, f1)?;
     let u2 = add(u, scale(k1.v, h, n), n);
     exprb32_2(r, au, k1.tally, k1.v, u2)
 }
@@ -49,8 +52,8 @@ fn exprb32_2(r: &Replay<'_>, au: Vector, tally: Tally, w1: Vector, u2: Vector) -
         return Some(question);
     }
     let f2 = r.shifted_stage(u2, au, 0);
-    let k13 = r.phi_action(h, 3, f1)?;
-    let k23 = r.phi_action(h, 3, f2)?;
+    let k13 = r.phi_action(h, Three, f1)?;
+    let k23 = r.phi_action(h, Three, f2)?;
     let tally = tally.joined(k13.tally).joined(k23.tally);
     let increment = scale(w1, h, n);
     let increment = axpy(increment, -2.0 * h, k13.v, n);
@@ -73,11 +76,11 @@ pub fn exprb43(r: &Replay<'_>, au: Vector) -> Option<Reached>
         f0: f1,
         ..
     } = r.point;
-    let k1h = r.phi_action(h / 2.0, 1, f1)?;
+    let k1h = r.phi_action(h / 2.0, One, f1)?;
     let last = 2 <= r.count;
-    let k11 = r.phi_if(last, h, 1, f1)?;
-    let k13 = r.phi_if(last, h, 3, f1)?;
-    let k14 = r.phi_if(last, h, 4, f1)?;
+    let k11 = r.phi_if(last, h, One, f1)?;
+    let k13 = r.phi_if(last, h, Three, f1)?;
+    let k14 = r.phi_if(last, h, Four, f1)?;
     let tally = k1h
         .tally
         .joined(k11.tally)
@@ -110,10 +113,10 @@ fn exprb43_2(
         return Some(question);
     }
     let f2 = r.shifted_stage(u2, au, 0);
-    let k21 = r.phi_action(h, 1, f2)?;
+    let k21 = r.phi_action(h, One, f2)?;
     let last = 2 <= r.count;
-    let k23 = r.phi_if(last, h, 3, f2)?;
-    let k24 = r.phi_if(last, h, 4, f2)?;
+    let k23 = r.phi_if(last, h, Three, f2)?;
+    let k24 = r.phi_if(last, h, Four, f2)?;
     let tally = tally.joined(k21.tally).joined(k23.tally).joined(k24.tally);
     let u3 = add(u, scale(k21.v, h, n), n);
     exprb43_3(r, au, tally, w11, w13, w14, k23.v, k24.v, u3)
@@ -145,8 +148,8 @@ fn exprb43_3(
         return Some(question);
     }
     let f3 = r.shifted_stage(u3, au, 1);
-    let k33 = r.phi_action(h, 3, f3)?;
-    let k34 = r.phi_action(h, 4, f3)?;
+    let k33 = r.phi_action(h, Three, f3)?;
+    let k34 = r.phi_action(h, Four, f3)?;
     let tally = tally.joined(k33.tally).joined(k34.tally);
     let increment = scale(w11, h, n);
     let increment = axpy(increment, -14.0 * h, w13, n);
@@ -174,8 +177,8 @@ pub fn exprb53s3(r: &Replay<'_>) -> Option<Reached>
         f0,
         ..
     } = r.point;
-    let k2 = r.phi_term(h / 2.0, 1, h / 2.0, f0)?;
-    let k3base = r.phi_term_if(1 <= r.count, 0.9 * h, 1, 0.9 * h, f0)?;
+    let k2 = r.phi_term(h / 2.0, One, h / 2.0, f0)?;
+    let k3base = r.phi_term_if(1 <= r.count, 0.9 * h, One, 0.9 * h, f0)?;
     let tally = k2.tally.joined(k3base.tally);
     let u2 = add(u, k2.v, n);
     exprb53s3_2(r, tally, k3base.v, u2)
@@ -198,10 +201,10 @@ fn exprb53s3_2(r: &Replay<'_>, tally: Tally, k3base: Vector, u2: Vector) -> Opti
     }
     let r2 = r.remainder(u2, 0);
     let u3 = add(u, k3base, n);
-    let k3 = r.phi_term(h / 2.0, 3, float::powi3(h / 2.0), r2)?;
+    let k3 = r.phi_term(h / 2.0, Three, float::powi3(h / 2.0), r2)?;
     let s3 = after(u3, 216.0 / (25.0 * h * h), k3, n);
     let cube = float::powi3(0.9 * h);
-    let s3 = r.add_term(s3, 8.0 / (h * h), 0.9 * h, 3, cube, r2)?;
+    let s3 = r.add_term(s3, 8.0 / (h * h), 0.9 * h, Three, cube, r2)?;
     let tally = tally.joined(s3.tally);
     exprb53s3_3(r, tally, r2, s3.v)
 }
@@ -226,8 +229,8 @@ fn exprb53s3_3(r: &Replay<'_>, tally: Tally, r2: Vector, u3: Vector) -> Option<R
     let cube = float::powi3(h);
     let b4 = combine2(18.0 / (h * h), r2, -250.0 / (81.0 * h * h), r3, n);
     let b5 = combine2(-60.0 / cube, r2, 500.0 / (27.0 * cube), r3, n);
-    let k = r.phi_term(h, 1, h, f0)?;
-    let k = r.add_term(k, 1.0, h, 3, cube, b4)?;
-    let k = r.add_term(k, 1.0, h, 4, float::powi4(h), b5)?;
+    let k = r.phi_term(h, One, h, f0)?;
+    let k = r.add_term(k, 1.0, h, Three, cube, b4)?;
+    let k = r.add_term(k, 1.0, h, Four, float::powi4(h), b5)?;
     ended(tally.joined(k.tally), add(u, k.v, n), [0.0; PLACES])
 }

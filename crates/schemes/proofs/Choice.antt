@@ -1,8 +1,7 @@
 -- What is told of where a pass stands, and of a number that no scheme has. Assumes nothing.
-use Rattle.std.proofs.Common.{◌≡◌, ℕ, ◌≤◌, List, refl, ◌∙◌}
+use Rattle.std.proofs.Common.{◌≡◌, ℕ, ◌≤◌, List, refl, ◌∙◌, Float}
 use Rattle.std.specs.Prelude.{Option, Some, None}
-use lib.Ieee.{Float}
-use lib.ListN.{get_or-eq_default}
+use Rattle.std.proofs.Math.ListN.{get_or-eq_default}
 use Rattle.matrix.specs.Vector.{zeros}
 use Rattle.methods.specs.declared.Point.{Point}
 use Rattle.methods.specs.declared.Tally.{Tally}

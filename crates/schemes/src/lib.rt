@@ -13,6 +13,7 @@ use methods::{Reached, Replay, Scheme, StepResult, Vector, subtract};
 use rosenbrock::{exprb32, exprb43, exprb53s3};
 
 // The pass of a scheme. None of them is compiled into it, so that a call has no room for the others.
+// Kept: a match over the enum hands each scheme what it takes; a table of functions or a dyn value would have to be made here and handed out.
 fn pass(scheme: Scheme, r: &Replay<'_>, au: Vector, g: Vector) -> Option<Reached>
     requires { au ≡ mat_vec r.now.point.n r.now.jacobian.now r.now.point.state }
     ensures { stand result ≡ in32 (replay_from r.now 0 (pass (number_of scheme) r.now.point r.now.jacobian.now au g)) }
@@ -38,6 +39,7 @@ fn pass(scheme: Scheme, r: &Replay<'_>, au: Vector, g: Vector) -> Option<Reached
 }
 
 // How many questions the pass of a scheme asks; above 15 there is none.
+// Kept: by the number, here and in perform_step, as a session and a program's record hold it; what has none is refused there.
 pub fn questions(scheme: u8) -> usize
     ensures { (result ≡ questions scheme) × (result ≤ 4) }
 {

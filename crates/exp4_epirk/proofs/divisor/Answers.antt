@@ -2,10 +2,6 @@
 use Rattle.methods.specs.Numbers.{numbers}
 use Rattle.exp4_epirk.proofs.divisor.Goals as goal
 
-pub returns-then-variant_2 : goal.returns-then-variant_2
+pub returns-in-P1 : goal.returns-in-P1
 unfolding numbers
-returns-then-variant_2 c = rw c.if-variant_2.true
-
-pub returns : goal.returns
-unfolding numbers
-returns c = rw c.if-variant_2.false
+returns-in-P1 c = rw c.in-P1.is

@@ -1,12 +1,21 @@
 -- `exp4_epirk::powi`: either exponent. Assumes nothing.
-use borrow.Author.Tests.{ne_eqb}
+use Rattle.std.proofs.Common.{◌≡◌, refl, Float}
+use Rattle.methods.specs.declared.order.Order.{Order}
+use Rattle.methods.specs.declared.order.Order.TheVariants.{One, Two, Three, Four}
+use Rattle.methods.specs.Order.{order_number}
 use Rattle.methods.specs.Schemes.{powi}
 use Rattle.exp4_epirk.proofs.powi.Goals as goal
 
-pub returns-then-k-eq2 : goal.returns-then-k-eq2
+pub returns-in-Two : goal.returns-in-Two
 unfolding powi
-returns-then-k-eq2 c = rw c.if-k-eq2.true c.powi2.ensures
+returns-in-Two c = rw (c.in-Two.is, c.powi2.ensures)
 
-pub returns-else-k-eq2 : goal.returns-else-k-eq2
+not_two : (x : Float) (k : Order) → (k ≡ Two → ⊥) → x ≡ powi x (order_number k)
 unfolding powi
-returns-else-k-eq2 c = rw (ne_eqb _ 2 c.if-k-eq2.false)
+not_two x One h = refl
+not_two x Two h = absurd (h refl)
+not_two x Three h = refl
+not_two x Four h = refl
+
+pub returns-in_default : goal.returns-in_default
+returns-in_default c = not_two _ _ c.in_default.not-Two

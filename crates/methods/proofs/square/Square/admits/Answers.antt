@@ -1,15 +1,13 @@
--- `methods::Square::admits`: the first i rows are tested. Assumes nothing.
-use Rattle.std.proofs.Common.{arith}
-use Rattle.loops.proofs.Loops.{every_none, every_step, every_end}
+-- `methods::Square::admits` meets its contract. Assumes nothing.
+use Rattle.std.proofs.Common.{rules, arith, ◌∙◌}
+use Rattle.std.proofs.lemmas.Iterator.{YieldsList-from_range}
+use Rattle.std.proofs.lemmas.Iterator.Search.{all_from_yields_List}
 use Rattle.methods.specs.Parts.{input_admitted}
+use Rattle.methods.proofs.Laws.{all_below}
 use Rattle.methods.proofs.square.Square.admits.Goals as goal
-
-pub loop-i-init : goal.loop-i-init
-loop-i-init c = (omega arith, every_none _)
-
-pub loop-i-preserved : goal.loop-i-preserved
-loop-i-preserved c = (omega arith, every_step _ _ _ _ c.loop-i.invariant.1 c.admitted_row-ok.ensures)
 
 pub returns : goal.returns
 unfolding input_admitted
-returns c = every_end _ _ _ _ c.loop-i.invariant.1 (omega arith)
+returns c =
+    all_from_yields_List _ _ _ c.all.result c.all.ensures.ran (YieldsList-from_range 0 c.args.self.now.n c.args.self.now.n (rw c.get.ensures.value) (omega arith)) (λ x b q k. search rules)
+    ∙ all_below _ _

@@ -1,5 +1,5 @@
 -- `methods::Square::augmented_row`: a turn for each place of the row of a, and the input behind it. Assumes nothing.
-use Rattle.std.proofs.Common.{◌≡◌, ◌+◌, ◌-◌, ◌*◌, ◌≤◌, length}
+use Rattle.std.proofs.Common.{◌≡◌, ◌+◌, ◌*◌, ◌≤◌, length}
 use Rattle.loops.specs.Loop.{stores}
 use Rattle.methods.specs.Parts.{input_row}
 use Rattle.methods.proofs.square.Square.augmented_row.Given as goal
