@@ -1,7 +1,5 @@
 -- Equal tolerances give the figures of the Rust, which has one. Assumes nothing.
-use Prim.Native.Nat.{ℕ, ◌<◌}
-use mathlib.Core.Path.{◌≡◌, ap}
-use lib.Ieee.{Float}
+use Rattle.std.proofs.Common.{ℕ, ◌<◌, ◌≡◌, ap, Float}
 use Rattle.float.specs.Arith.{zero+, powi2}
 use Rattle.float.proofs.Sums.{sum_ext, most_ext}
 use Rattle.engine.specs.Engine.{ratio, root_mean, scaled_error_norm, error_norm, rate, by_rates, estimate_initial_step, first_step}

@@ -1,13 +1,6 @@
 -- The first step lies between 2 ^ -52 and the largest step, whatever it is worked out from. Assumes nothing.
-use Prim.Native.Nat.{ℕ, suc, ◌*◌}
-use mathlib.Core.Path.{◌≡◌, refl, subst}
-use mathlib.Core.Bool.{Bool, true, false, cond, true≢false}
-use mathlib.Core.List.{List}
-use native.Mathlib.Omega.{arith}
-use lib.Dec.{eqb}
-use borrow.Author.Tests.{ne_eqb}
-use lib.IntN.{ℤ}
-use lib.Ieee.{Float, nan, inf, fin, is_nan, lt, eq, le, div, of_bits, of_fields, odd, binary64, round, unlike, up, down}
+use Rattle.std.proofs.Common.{ℕ, suc, ◌*◌, ◌≡◌, refl, subst, Bool, true, false, cond, true≢false, List, arith, eqb, ne_eqb, ℤ, Float}
+use Rattle.std.specs.Float.Ieee.{nan, inf, fin, is_nan, lt, eq, le, div, of_bits, of_fields, odd, binary64, round, unlike, up, down}
 use Rattle.loops.specs.Loop.{◌!◌}
 use Rattle.float.specs.Arith.{◌⊘◌, zero+, epsilon, most}
 use Rattle.float.proofs.Plus.{round_number}

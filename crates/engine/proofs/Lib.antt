@@ -1,4 +1,5 @@
-pub mod Columns
+pub mod Differences
+pub mod Ranges
 pub mod Small
 pub mod Norm
 pub mod FirstStep

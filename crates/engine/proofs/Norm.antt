@@ -1,11 +1,6 @@
 -- The error norm of finite entries under positive tolerances is never a NaN. Assumes nothing.
-use Prim.Native.Nat.{ℕ, ◌≤◌, ◌<◌}
-use mathlib.Core.Path.{◌≡◌}
-use mathlib.Core.Bool.{true, false}
-use mathlib.Core.List.{List}
-use lib.Dec.{T}
-use lib.IntN.{pos}
-use lib.Ieee.{Float, binary64, of_int, is_nan, fits}
+use Rattle.std.proofs.Common.{ℕ, ◌≤◌, ◌<◌, ◌≡◌, true, false, List, T, pos, Float}
+use Rattle.std.specs.Float.Ieee.{binary64, of_int, is_nan, fits}
 use lib.Ieee.Positive.{positive}
 use Rattle.loops.specs.Loop.{◌!◌}
 use Rattle.float.specs.Arith.{◌⊕◌, ◌⊗◌, ◌⊘◌, finite, abs, larger, powi2, sum_of}

@@ -1,11 +1,6 @@
 -- A small whole number is a double. Assumes nothing.
-use Prim.Native.Nat.{ℕ, ◌^◌, ◌≤◌}
-use mathlib.Core.Path.{sym, subst}
-use native.Mathlib.Omega.{arith}
-use lib.Dec.{T}
-use lib.Ieee.{in_float, binary64}
-use lib.IntN.{pos}
-use borrow.Author.Tests.{le-leb}
+use Rattle.std.proofs.Common.{ℕ, ◌^◌, ◌≤◌, sym, subst, arith, T, pos, le-leb}
+use Rattle.std.specs.Float.Ieee.{in_float, binary64}
 
 pub float_small : (n : ℕ) → n ≤ 16 → T (in_float binary64 (pos n))
 unfolding in_float

@@ -22,7 +22,7 @@ FirstStepBetween =
 abbrev pub Equal : ℕ → Float → List Float → Type 0
 Equal n one absolute = (i : ℕ) → i < n → absolute ! i ≡ one
 
--- Request 1, 'Equal tolerances must give the bits of before': n equal ones give the Rust's figures, for every input, infinite or NaN too.
+-- Equal tolerances give the bits of before: n equal ones give the Rust's figures, for every input, infinite or NaN too.
 pub record EqualTolerances : Type 0 where
   pub norm : (n : ℕ) (relative one : Float) (absolute : List Float) → Equal n one absolute
       → (state candidate error : List Float)

@@ -1,11 +1,11 @@
 // engine.rs: the differenced Jacobian, the error norm and the first step.
 #![tactic(auto)]
 
-ghost use Rattle.std.specs.Prelude.{◌≡◌, true, ◌+◌, ◌*◌, ◌≤◌, ◌<◌, length};
-ghost use Rattle.loops.specs.Loop.{every, mat, stores, ◌!◌};
-ghost use Rattle.float.specs.Arith.{◌⊕◌, ◌⊖◌, ◌⊗◌, ◌⊘◌, finite, abs, larger};
+ghost use Rattle.std.specs.Prelude.{◌≡◌, ℕ, true, ◌+◌, ◌*◌, ◌≤◌, ◌<◌, length};
+ghost use Rattle.loops.specs.Loop.{every, mat, tab, ◌!◌};
+ghost use Rattle.float.specs.Arith.{◌⊕◌, ◌⊖◌, ◌⊗◌, ◌⊘◌, abs, larger};
 ghost use Rattle.evaluation.specs.Evaluation.{all_finite};
-ghost use Rattle.evaluation.specs.Sizes.{places, answer_room};
+ghost use Rattle.evaluation.specs.Sizes.{places};
 ghost use Rattle.matrix.specs.Vector.{vec};
 ghost use Rattle.engine.specs.Engine.{delta, perturbed, perturbed_entry, jacobian_entry, column_ok, error_norm, estimate, clamp, first_step};
 
@@ -13,6 +13,7 @@ use evaluation::{PLACES, ROOM};
 use matrix::{Dimension, vector};
 
 // By how much a component is moved.
+#[tactic(auto, unfolding(crate::specs::Engine::delta))]
 fn delta(x: f64) -> f64
     ensures { result ≡ delta x }
 {
@@ -20,6 +21,7 @@ fn delta(x: f64) -> f64
 }
 
 // Component i of the state that column j is asked at.
+#[tactic(auto, unfolding(crate::specs::Engine::perturbed_entry))]
 fn perturbed_entry(x: f64, i: usize, j: usize) -> f64
     ensures { result ≡ perturbed_entry x i j }
 {
@@ -27,106 +29,83 @@ fn perturbed_entry(x: f64, i: usize, j: usize) -> f64
 }
 
 // The state that column j is asked at.
-pub fn perturbed(state: &[f64; PLACES], j: usize, n: usize) -> [f64; PLACES]
-    requires { n ≤ places }
+#[tactic(auto, unfolding(crate::specs::Engine::perturbed))]
+pub fn perturbed(state: &[f64; PLACES], j: usize, n: Dimension) -> [f64; PLACES]
     ensures { result ≡ perturbed n state.now j }
 {
-    vector(Dimension::new(n), |i| perturbed_entry(state[i], i, j))
+    vector(n, |i| perturbed_entry(state[i], i, j))
 }
 
-// Whether n differences, of an answer that begins at `at` and of f0, are finite once divided by d.
-fn column_finite(f0: &[f64; PLACES], answers: &[f64; ROOM], n: usize, at: usize, d: f64) -> bool
-    requires n_le_places { n ≤ places }
-    requires in_answers { at + n ≤ answer_room }
-    ensures { result ≡ every n (λ i. finite ((answers.now ! (at + i) ⊖ f0.now ! i) ⊘ d)) }
-{
-    let mut ok = true;
-    for i in 0..n {
-        ok = ok & float::finite((answers[at + i] - f0[i]) / d);
-    }
-    ok
-}
-
-// Whether column j was asked at a finite state and is finite: of the components only the moved one can have left the finite numbers.
-fn column_ok(
-    state: &[f64; PLACES],
-    f0: &[f64; PLACES],
-    answers: &[f64; ROOM],
-    n: usize,
-    j: usize,
-) -> bool
-    requires n_le_places { n ≤ places }
-    requires j_lt_n { j < n }
+// Whether that state is finite if `state` is: of the components only the moved one can have left the finite numbers.
+fn moved_finite(state: &[f64; PLACES], j: usize) -> bool
+    requires j_lt_places { j < places }
     requires state_value { all_finite state.now ≡ true }
-    ensures { result ≡ column_ok n state.now f0.now answers.now j }
+    ensures { (n : ℕ) → j < n → n ≤ places → result ≡ all_finite (perturbed n state.now j) }
 {
     let u = state[j];
-    let d = delta(u);
-    float::finite(u + d) & column_finite(f0, answers, n, PLACES * j, d)
-}
-
-// The same of the first m columns.
-pub fn columns_ok(
-    state: &[f64; PLACES],
-    f0: &[f64; PLACES],
-    answers: &[f64; ROOM],
-    n: usize,
-    m: usize,
-) -> bool
-    requires n_le_places { n ≤ places }
-    requires m_le_n { m ≤ n }
-    requires state_value { all_finite state.now ≡ true }
-    ensures { result ≡ every m (column_ok n state.now f0.now answers.now) }
-{
-    let mut ok = true;
-    for j in 0..m {
-        ok = ok & column_ok(state, f0, answers, n, j);
-    }
-    ok
+    float::finite(u + delta(u))
 }
 
 // By how much each component is moved.
-fn deltas(state: &[f64; PLACES], n: usize) -> [f64; PLACES]
-    requires { n ≤ places }
+fn deltas(state: &[f64; PLACES], n: Dimension) -> [f64; PLACES]
     ensures { result ≡ vec n (λ j. delta (state.now ! j)) }
 {
-    vector(Dimension::new(n), |j| delta(state[j]))
+    vector(n, |j| delta(state[j]))
 }
 
-// Row i of the Jacobian, at the place `row`.
-fn jacobian_row(
-    f: f64,
-    answers: &[f64; ROOM],
-    d: &[f64; PLACES],
-    i: usize,
-    n: usize,
-    out: &mut [f64],
-    row: usize,
-)
-    requires i_lt_places { (i < places) × (n ≤ places) }
-    requires n_in_bounds { row + n ≤ length out.old }
-    ensures { out.new ≡ stores (λ j _. (answers.now ! (places * j + i) ⊖ f) ⊘ d.now ! j) row n out.old }
-{
-    for j in 0..n {
-        out[row + j] = (answers[PLACES * j + i] - f) / d[j];
+// What the columns of a differenced Jacobian are worked out from.
+#[derive(Clone, Copy)]
+pub struct Columns<'a> {
+    pub n: Dimension,
+    pub state: &'a [f64; PLACES],
+    pub f0: &'a [f64; PLACES],
+    pub answers: &'a [f64; ROOM],
+}
+
+impl Columns<'_> {
+    // Whether column j was asked at a finite state and is finite.
+    fn ok(&self, j: usize) -> bool
+        requires j_lt_n { j < self.now.n }
+        requires state_value { all_finite self.now.state.now ≡ true }
+        ensures { result ≡ column_ok self.now.n self.now.state.now self.now.f0.now self.now.answers.now j }
+    {
+        let n = self.n.get();
+        let d = delta(self.state[j]);
+        moved_finite(self.state, j)
+            && (0..n).all(|i| float::finite((self.answers[PLACES * j + i] - self.f0[i]) / d))
     }
-}
 
-// The Jacobian, row by row.
-pub fn jacobian_into(
-    state: &[f64; PLACES],
-    f0: &[f64; PLACES],
-    answers: &[f64; ROOM],
-    n: usize,
-    out: &mut [f64],
-)
-    requires n_le_places { n ≤ places }
-    requires out_len { length out.old ≡ n * n }
-    ensures { out.new ≡ mat n (jacobian_entry state.now f0.now answers.now) }
-{
-    let d = deltas(state, n);
-    for i in 0..n {
-        jacobian_row(f0[i], answers, &d, i, n, out, i * n);
+    // The same of the first m columns.
+    pub fn all_ok(&self, m: usize) -> bool
+        requires m_le_n { m ≤ self.now.n }
+        requires state_value { all_finite self.now.state.now ≡ true }
+        ensures { result ≡ every m (column_ok self.now.n self.now.state.now self.now.f0.now self.now.answers.now) }
+    {
+        (0..m).all(|j| self.ok(j))
+    }
+
+    // Row i of the Jacobian.
+    fn row(&self, d: &[f64; PLACES], i: usize, out: &mut [f64])
+        requires { (i < places) × (length out.old ≤ places) }
+        ensures { out.new ≡ tab (length out.old) (λ j. (self.now.answers.now ! (places * j + i) ⊖ self.now.f0.now ! i) ⊘ d.now ! j) }
+    {
+        for (j, x) in out.iter_mut().enumerate() {
+            *x = (self.answers[PLACES * j + i] - self.f0[i]) / d[j];
+        }
+    }
+
+    // The Jacobian, row by row.
+    // Kept: n may be 0 here, and chunks_exact_mut takes no 0.
+    pub fn jacobian_into(&self, out: &mut [f64])
+        requires { length out.old ≡ self.now.n * self.now.n }
+        ensures { out.new ≡ mat self.now.n (jacobian_entry self.now.state.now self.now.f0.now self.now.answers.now) }
+    {
+        let n = self.n.get();
+        let d = deltas(self.state, self.n);
+        for i in 0..n {
+            let start = i * n;
+            self.row(&d, i, &mut out[start..start + n]);
+        }
     }
 }
 
@@ -139,24 +118,24 @@ fn ratio(relative: f64, absolute: f64, u: f64, v: f64, e: f64) -> f64
 }
 
 // The error norm, each component by its own tolerance.
+// Kept: a struct of the norm's parts would be made at its two calls and taken apart at once.
 pub fn scaled_error_norm(
-    n: usize,
+    n: Dimension,
     relative: f64,
     absolute: &[f64; PLACES],
     state: &[f64; PLACES],
     candidate: &[f64; PLACES],
     error: &[f64; PLACES],
 ) -> f64
-    requires le_n { 1 ≤ n }
-    requires n_le_places { n ≤ places }
+    requires { 1 ≤ n }
     ensures { result ≡ error_norm n «relative» absolute.now state.now candidate.now error.now }
 {
-    let mut sum = float::powi2(ratio(relative, absolute[0], state[0], candidate[0], error[0]));
-    for i in 1..n {
+    let first = float::powi2(ratio(relative, absolute[0], state[0], candidate[0], error[0]));
+    let sum = (1..n.get()).fold(first, |sum, i| {
         let r = ratio(relative, absolute[i], state[i], candidate[i], error[i]);
-        sum = sum + float::powi2(r);
-    }
-    float::sqrt(sum / (n as f64))
+        sum + float::powi2(r)
+    });
+    float::sqrt(sum / (n.get() as f64))
 }
 
 // A derivative entry over its tolerance.
@@ -167,6 +146,7 @@ fn rate(relative: f64, absolute: f64, u: f64, f: f64) -> f64
 }
 
 // 0.001 if the scale is 0, otherwise 0.01 / scale.
+#[tactic(auto, unfolding(crate::specs::Engine::estimate))]
 fn estimate(scale: f64) -> f64
     ensures { result ≡ estimate scale }
 {
@@ -174,6 +154,7 @@ fn estimate(scale: f64) -> f64
 }
 
 // x held between 2^-52 and the largest step.
+#[tactic(auto, unfolding(crate::specs::Engine::clamp))]
 fn clamp(x: f64, largest: f64) -> f64
     ensures { result ≡ clamp x largest }
 {
@@ -190,21 +171,20 @@ fn clamp(x: f64, largest: f64) -> f64
 }
 
 // The first step, each component by its own tolerance.
+// Kept: a struct of its parts would be made at its one call and taken apart at once.
 pub fn estimate_initial_step(
-    n: usize,
+    n: Dimension,
     relative: f64,
     absolute: &[f64; PLACES],
     state: &[f64; PLACES],
     derivative: &[f64; PLACES],
     largest: f64,
 ) -> f64
-    requires { n ≤ places }
     ensures { result ≡ first_step n «relative» absolute.now state.now derivative.now largest }
 {
-    let mut scale = 0.0;
-    for i in 0..n {
+    let scale = (0..n.get()).fold(0.0, |scale, i| {
         let r = rate(relative, absolute[i], state[i], derivative[i]);
-        scale = float::larger(scale, r);
-    }
+        float::larger(scale, r)
+    });
     clamp(estimate(scale), largest)
 }
