@@ -1,7 +1,6 @@
--- Document 01's proved examples, each by computing. Assumes nothing.
-use Prim.Native.Nat.{ℕ}
-use mathlib.Core.Path.{refl}
-use lib.Ieee.{is_nan, add, sub, mul, div, sum, lt, eq, le, neg, round, units, odd, size, span, climb, of_bits, of_fields, of_int}
+-- The proved examples, each by computing. Assumes nothing.
+use Rattle.std.proofs.Common.{ℕ, refl}
+use Rattle.std.specs.Float.Ieee.{is_nan, add, sub, mul, div, sum, lt, eq, le, neg, round, units, odd, size, span, climb, of_bits, of_fields, of_int}
 use lib.Count.{count_trailing_zeros}
 use Rattle.loops.specs.Loop.{iter, every, from, tab, mat, fill, stores}
 use Rattle.float.specs.Arith.{finite, plus_zero, abs, larger, sum_of, most}

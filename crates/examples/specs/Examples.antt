@@ -1,4 +1,4 @@
--- Document 01's 'Proved examples', the examples of its table of refusals, and tolerances of their own (request 1), as one statement over the calls. Definitions only:
+-- The proved examples, those of the table of refusals, and tolerances of their own, as one statement over the calls. Definitions only:
 -- proofs/Examples.antt evaluates each line.
 use Rattle.std.specs.Prelude.{ℕ, ◌≡◌, List, [], ◌∷◌, Float, replicate, Ok, Err}
 use Rattle.std.specs.Float.{nan, binary64}
@@ -164,7 +164,7 @@ pub record Examples : Type 0 where
   -- 'supply to a resting session'
   pub refused_7 : (supply_call (resting NorsettEuler (num 1) (num 2)).session (only (num 2)) lent).told.answer ≡ Err Why.Phase
 
--- ---- request 1: each component has its own tolerance
+-- ---- each component has its own tolerance
 pub record OwnTolerances : Type 0 where
   -- the tolerances 1 and 2 divide the errors 1 and 14 into 1 and 7, so the norm is 5
   pub error_norm : norm_call 2 (num 1) (pair (num 1) (num 2)) (pair (num 1) (num 14)) (pair zero+ zero+) (pair zero+ zero+) ≡ Ok (Norm (num 5))
@@ -175,7 +175,7 @@ pub record OwnTolerances : Type 0 where
   -- the second of two is not positive
   pub refused_4 : (tolerating (pair (num 1) zero+)).answer ≡ Err Why.Tolerance
 
--- ---- request 2: the exponential tells how far it went
+-- ---- the exponential tells how far it went
 pub record Reaches : Type 0 where
   -- the zero matrix: its first term is added and found small; the identity is no term
   pub zero : (exponential_call 1 (single 0) lent).answer ≡ Ok (Filled 1 0)

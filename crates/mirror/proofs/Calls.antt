@@ -1,13 +1,7 @@
 -- Mirrored calls: the same answer, mirrored sessions, mirrored outputs. Assumes nothing.
-use Prim.Native.Nat.{ℕ, zero, suc, ◌≤◌, ◌<◌}
-use native.Mathlib.Decide.{dec_lt}
-use native.Mathlib.Omega.{arith}
-use mathlib.Core.Path.{◌≡◌, refl, sym, ap, ap₂, ◌∙◌, subst, subst₂}
-use mathlib.Core.Bool.{Bool, true, false, cond, ◌&&◌, and-false, true≢false, false≢true}
-use mathlib.Core.List.{List, [], ◌++◌}
-use lib.Dec.{eqb, leb}
-use lib.Ieee.{Float}
-use lib.ListN.{length}
+use Rattle.std.proofs.Common.{ℕ, zero, suc, ◌≤◌, ◌<◌, arith, ◌≡◌, refl, sym, ap, ap₂, ◌∙◌, subst, subst₂, Bool, true, false, cond, ◌&&◌, true≢false, List, [], ◌++◌, eqb, leb, Float, length}
+use Rattle.std.proofs.Math.Decide.{dec_lt}
+use Rattle.std.proofs.Math.Bool.{and-false, false≢true}
 use borrow.Author.Tests.{lt-leb}
 use Rattle.float.specs.Arith.{◌⊕◌, zero+, finite}
 use Rattle.methods.specs.Step.{Progress, refused, asking, ended}

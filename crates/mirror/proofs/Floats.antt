@@ -1,14 +1,10 @@
 -- Mirrored numbers: `Mirror s x y` says that y is x with its sign turned where s is true, zeros of either sign being equal; and what one rounding makes of them. Assumes nothing.
 use Prim.Native.Nat.compare
-use Prim.Native.Nat.{ℕ, zero, suc, ◌+◌, ◌-◌, ◌*◌, ◌/◌, ◌^◌, ◌%◌, ◌≤◌, compare}
-use native.Mathlib.Nat.{zero-mul, mul-zero, zero-add, add-zero, sub-zero, zero-div, zero-mod}
-use native.Mathlib.Omega.{arith}
-use mathlib.Core.Path.{◌≡◌, refl, sym, ap, ◌∙◌, subst, subst₂}
-use mathlib.Core.Logic.{inl, inr}
-use mathlib.Core.Bool.{Bool, true, false, cond, not, ◌&&◌}
-use lib.Dec.{T, ltb, eqb, nltb→le, leb-zero, leb-suc-zero, leb-suc-suc}
-use lib.IntN.{ℤ, pos}
-use lib.Ieee.{Float, nan, inf, fin, binary64, prec, emax, low, up, down, unlike, neg, add, sub, mul, div, sum, round, units, odd, size, span, climb, nearest, of_bits, of_fields}
+use Rattle.std.proofs.Common.{ℕ, zero, suc, ◌+◌, ◌-◌, ◌*◌, ◌/◌, ◌^◌, ◌%◌, ◌≤◌, zero-mul, mul-zero, zero-add, add-zero, arith, ◌≡◌, refl, sym, ap, ◌∙◌, subst, subst₂, inl, inr, Bool, true, false, cond, not, ◌&&◌, T, ltb, eqb, nltb→le, ℤ, pos, Float}
+use Prim.Native.Nat.{compare}
+use Rattle.std.proofs.Math.Nat.{sub-zero, zero-div, zero-mod}
+use Rattle.std.proofs.Math.Dec.{leb-zero, leb-suc-zero, leb-suc-suc}
+use Rattle.std.specs.Float.Ieee.{nan, inf, fin, binary64, prec, emax, low, up, down, unlike, neg, add, sub, mul, div, sum, round, units, odd, size, span, climb, nearest, of_bits, of_fields}
 use lib.Count.{count_trailing_zeros}
 use Rattle.float.proofs.Signs.{unlike_mix, unlike_assoc, unlike_self, false_unlike, unlike_not}
 use Rattle.float.specs.Arith.{zero+, abs, finite, ◌⊕◌, ◌⊖◌, ◌⊗◌, ◌⊘◌}
@@ -143,7 +139,7 @@ m_flip s nan = m_nan
 m_flip s (inf t) = m_inf t
 m_flip s (fin t m e) = m_fin t m e
 
--- the same relation, as demand 3 says it
+-- the same relation, as it is said of runs
 pub agrees : {s : Bool} {x y : Float} → Mirror s x y → Agrees s x y
 unfolding Agrees flip Zero
 agrees m_nan = inl refl

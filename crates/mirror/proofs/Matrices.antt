@@ -1,14 +1,6 @@
 -- The exponential of mirrored matrices, and its actions on mirrored vectors: norms and row sums are equal, so both runs square as often and stop at the same term. Assumes nothing.
-use Prim.Native.Nat.{ℕ, zero, suc, ◌+◌, ◌-◌, ◌≤◌, ◌<◌}
-use native.Mathlib.Omega.{arith}
-use mathlib.Core.Path.{◌≡◌, refl, sym, ap, ap₂, ◌∙◌, subst}
-use mathlib.Core.Bool.{Bool, true, false, cond, not, ◌&&◌}
-use mathlib.Core.List.{List}
-use lib.Dec.{T, eqb, ltb, eqb→eq, ltb→lt, nltb→le}
-use lib.IntN.{pos}
-use lib.Ieee.{Float, binary64, unlike, le, of_int}
-use lib.ListN.{length}
-use borrow.Author.Tests.{lt-ltb, le-ltb}
+use Rattle.std.proofs.Common.{ℕ, zero, suc, ◌+◌, ◌-◌, ◌≤◌, ◌<◌, arith, ◌≡◌, refl, sym, ap, ap₂, ◌∙◌, subst, Bool, true, false, cond, not, ◌&&◌, List, T, eqb, ltb, eqb→eq, ltb→lt, nltb→le, pos, Float, length, lt-ltb, le-ltb}
+use Rattle.std.specs.Float.Ieee.{binary64, unlike, le, of_int}
 use Rattle.loops.specs.Loop.{iter, ◌!◌}
 use Rattle.loops.proofs.Loops.{every_ext}
 use Rattle.float.proofs.Signs.{unlike_self, unlike_false, inner}
@@ -58,7 +50,7 @@ module _ {n : ℕ} {σ : ℕ → Bool} where
   add_all_m {a} {a'} A B = tab_m n σ (length a) (length a') _ _ A.size (λ p h. add_m (A.place p) (B.place p))
 
   -- ---- what does not see the signs
-  -- this is where demand 3 rests on the absolute values: norms, and so what is refused and how often is squared, come from the row sums alone
+  -- this is where the mirrored runs rest on the absolute values: norms, and so what is refused and how often is squared, come from the row sums alone
   row_sum_m : {a a' : List Float} → Mats n σ a a' → (i : ℕ) → i < n → row_sum a n i ≡ row_sum a' n i
   unfolding row_sum SameRowSums
   row_sum_m {a} {a'} A i h = same_row_sums n σ a a' (λ p l. agrees (A.place p)) i h

@@ -1,17 +1,8 @@
 -- Two lists of numbers, place by place: mirrored where in use, equal elsewhere. Assumes nothing.
-use Prim.Native.Nat.{ℕ, ◌+◌, ◌*◌, ◌/◌, ◌%◌, ◌≤◌, ◌<◌}
-use native.Mathlib.Nat.{min-le_left, le_trans}
-use native.Mathlib.Decide.{ℕ_discrete, dec_lt}
-use native.Mathlib.Omega.{arith}
-use mathlib.Core.Path.{◌≡◌, refl, sym, ap, ap₂, ◌∙◌, subst, subst₂}
-use mathlib.Core.Logic.{◌≢◌}
-use mathlib.Core.Bool.{Bool, true, false, ◌&&◌, ◌||◌}
-use mathlib.Core.List.{List, []}
-use lib.Dec.{ltb}
-use lib.Ieee.{Float, nan}
-use lib.ListN.{length, replicate, take, length-take}
-use lib.Seq.{get_or-take}
-use borrow.Author.Tests.{lt-ltb, le-ltb, ltb-true, ltb-false}
+use Rattle.std.proofs.Common.{ℕ, ◌+◌, ◌*◌, ◌/◌, ◌%◌, ◌≤◌, ◌<◌, le_trans, arith, ◌≡◌, refl, sym, ap, ap₂, ◌∙◌, subst, subst₂, ◌≢◌, Bool, true, false, ◌&&◌, ◌||◌, List, [], ltb, Float, length, replicate, take, length-take, get_or-take, lt-ltb, le-ltb, ltb-true, ltb-false}
+use Rattle.std.proofs.Math.Nat.{min-le_left}
+use Rattle.std.proofs.Math.Decide.{ℕ_discrete, dec_lt}
+use Rattle.std.specs.Float.Ieee.{nan}
 use Rattle.loops.specs.Loop.{every, tab, stores, ◌!◌}
 use Rattle.loops.proofs.Loops.{every_ext, past_end, length-tab, tab_at}
 use Rattle.loops.proofs.Stores.{length-stores}

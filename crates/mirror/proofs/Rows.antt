@@ -1,6 +1,5 @@
 -- Row sums see no sign. Assumes nothing.
-use Prim.Native.Nat.{◌+◌, ◌*◌}
-use native.Mathlib.Omega.{arith}
+use Rattle.std.proofs.Common.{◌+◌, ◌*◌, arith}
 use Rattle.loops.proofs.Places.{row_fits}
 use Rattle.float.proofs.Sums.{sum_ext}
 use Rattle.matrix.specs.Matrix.{row_sum}

@@ -1,12 +1,7 @@
--- Demand 3 proved: an opening and a list of calls, and what the working relations say in the statement's words. Assumes nothing.
-use Prim.Native.Nat.{ℕ, ◌≤◌, ◌<◌}
-use native.Mathlib.Decide.{dec_lt}
-use native.Mathlib.Omega.{arith}
-use mathlib.Core.Path.{◌≡◌, refl, sym, ap, subst, subst₂}
-use mathlib.Core.Bool.{Bool, true, false, ◌&&◌}
-use mathlib.Core.List.{List}
-use lib.Ieee.{Float, nan, inf, fin}
-use lib.ListN.{length}
+-- The mirrored runs proved: an opening and a list of calls, and what the working relations say in the statement's words. Assumes nothing.
+use Rattle.std.proofs.Common.{ℕ, ◌≤◌, ◌<◌, arith, ◌≡◌, refl, sym, ap, subst, subst₂, Bool, true, false, ◌&&◌, List, Float, length}
+use Rattle.std.proofs.Math.Decide.{dec_lt}
+use Rattle.std.specs.Float.Ieee.{nan, inf, fin}
 use Rattle.loops.specs.Loop.{tab, ◌!◌}
 use Rattle.loops.proofs.Loops.{past_end, length-tab, tab_at}
 use Rattle.float.proofs.Signs.{false_unlike}

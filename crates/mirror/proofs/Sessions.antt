@@ -1,12 +1,7 @@
 -- Mirrored sessions: their tests, figures, steps, and the sessions that the calls make of them. Assumes nothing.
-use Prim.Native.Nat.{ℕ, ◌+◌, ◌-◌, ◌≤◌, ◌<◌}
-use native.Mathlib.Omega.{arith}
-use mathlib.Core.Path.{◌≡◌, refl, ap, ap₂, ◌∙◌}
-use mathlib.Core.Bool.{Bool, true, false, cond, ◌&&◌, true≢false, false≢true}
-use mathlib.Core.List.{List}
-use lib.Dec.{eqb}
-use lib.IntN.{pos}
-use lib.Ieee.{Float, binary64, of_int}
+use Rattle.std.proofs.Common.{ℕ, ◌+◌, ◌-◌, ◌≤◌, ◌<◌, arith, ◌≡◌, refl, ap, ap₂, ◌∙◌, Bool, true, false, cond, ◌&&◌, true≢false, List, eqb, pos, Float}
+use Rattle.std.proofs.Math.Bool.{false≢true}
+use Rattle.std.specs.Float.Ieee.{binary64, of_int}
 use Rattle.std.specs.Prelude.{Option, Some, None}
 use Rattle.loops.specs.Loop.{◌!◌}
 use Rattle.float.proofs.Sums.{sum_ext, most_ext}

@@ -1,10 +1,5 @@
 -- Mirrored steps, as far as mirrored answers lead. Assumes nothing.
-use Prim.Native.Nat.{ℕ, zero, suc, ◌+◌, ◌≤◌, ◌<◌}
-use native.Mathlib.Omega.{arith}
-use mathlib.Core.Path.{◌≡◌, refl, ap₂, subst}
-use mathlib.Core.Bool.{Bool, true, false, cond, ◌&&◌}
-use mathlib.Core.List.{List}
-use lib.Ieee.{Float}
+use Rattle.std.proofs.Common.{ℕ, zero, suc, ◌+◌, ◌≤◌, ◌<◌, arith, ◌≡◌, refl, ap₂, subst, Bool, true, false, cond, ◌&&◌, List, Float}
 use Rattle.float.specs.Arith.{finite}
 use Rattle.methods.specs.declared.Point.{Point}
 use Rattle.methods.specs.Tally.{Report}

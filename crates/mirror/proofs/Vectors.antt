@@ -1,12 +1,7 @@
 -- Mirrored vectors and matrices, and the helpers on vectors. Assumes nothing.
-use Prim.Native.Nat.{ℕ, zero, suc, ◌+◌, ◌*◌, ◌/◌, ◌%◌, ◌≤◌, ◌<◌}
-use native.Mathlib.Decide.{dec_lt}
-use native.Mathlib.Omega.{arith}
-use mathlib.Core.Path.{◌≡◌, refl, ap, ap₂, ◌∙◌, subst}
-use mathlib.Core.Bool.{Bool}
-use mathlib.Core.List.{List, [], ◌∷◌}
-use lib.Ieee.{Float, unlike}
-use lib.ListN.{length, replicate, drop, length-append}
+use Rattle.std.proofs.Common.{ℕ, zero, suc, ◌+◌, ◌*◌, ◌/◌, ◌%◌, ◌≤◌, ◌<◌, arith, ◌≡◌, refl, ap, ap₂, ◌∙◌, subst, Bool, List, [], ◌∷◌, Float, length, replicate, drop, length-append}
+use Rattle.std.proofs.Math.Decide.{dec_lt}
+use Rattle.std.specs.Float.Ieee.{unlike}
 use Rattle.loops.specs.Loop.{iter, every, tab, mat, fill, ◌!◌}
 use Rattle.loops.proofs.Loops.{every_ext, past_end, append_past, length-tab, tab_at}
 use Rattle.loops.proofs.Places.{row_below, column_below, place_row, place_column}

@@ -1,4 +1,4 @@
--- Demand 3, as document 01's 'The mirrored runs of demand 3' reads it: one statement about an opening and a list of calls. Definitions only.
+-- The mirrored runs: one statement about an opening and a list of calls. Definitions only.
 use Rattle.std.specs.Prelude.{ℕ, ◌/◌, ◌%◌, ◌<◌, ◌≡◌, ◌⊎◌, Bool, true, false, ◌&&◌, List, [], ◌∷◌, ltb, pos, Float, length, Some}
 use Rattle.std.specs.Float.{nan, inf, fin}
 use Rattle.std.specs.Float.Ieee.{unlike}
@@ -11,7 +11,7 @@ use Rattle.session.specs.Session.{Run, Trial, run_of, trial_of, used_history, us
 use Rattle.session.specs.Calls.{Outcome}
 use Rattle.session.specs.Runs.{Call, begin, supply, accept, drop, first_step, perform, opening, run}
 
--- The runs, 'Two runs of demand 2's definition open, then make the same calls .. in any order and number, none too', are those of the session's specs/Runs.antt:
+-- The runs, two that open, then make the same calls in any order and number, none too, are those of the session's specs/Runs.antt:
 -- an opening hands in a Run, and 'Each call gets the session that the last one returned, after a refusal too'.
 
 -- ---- flips: 'To flip is to turn the sign bit'
@@ -33,7 +33,7 @@ within n p = ltb p n
 abbrev pub entry_turned : ℕ → (ℕ → Bool) → ℕ → Bool
 entry_turned n turned p = unlike (turned (p / n)) (turned (p % n))
 
--- 'the second hands in, flipped, what demand 3 flips': n is that handed to open, and `turned` the one choice of components
+-- what the second hands in, flipped where runs are: n is that handed to open, and `turned` the one choice of components
 unfoldable pub flipped_opening : (ℕ → Bool) → Run → Run
 flipped_opening turned o = record {
   scheme = o.scheme;

@@ -1,4 +1,4 @@
--- The step of demand 3 that needs the absolute values: a row sum is equal to the bit in both runs, so that both are refused, divided and squared alike. Definitions only.
+-- The step of the mirrored runs that needs the absolute values: a row sum is equal to the bit in both runs, so that both are refused, divided and squared alike. Definitions only.
 use Rattle.std.specs.Prelude.{ℕ, ◌*◌, ◌<◌, ◌≡◌, Bool, List, Float}
 use Rattle.loops.specs.Loop.{◌!◌}
 use Rattle.float.specs.Arith.{abs, sum_of}

@@ -1,11 +1,5 @@
 -- Lent parts of a session's figures, the supplied Jacobian among them, and a copy at the front of a room. Assumes nothing.
-use Prim.Native.Nat.{ℕ, ◌+◌, ◌-◌, ◌*◌, ◌≤◌}
-use native.Mathlib.Omega.{arith}
-use mathlib.Core.Path.{◌≡◌, sym, ap, ◌∙◌}
-use mathlib.Core.List.{List}
-use lib.Ieee.{Float}
-use lib.ListN.{length, take, drop, length-drop}
-use lib.Seq.{length-take-le, take-take}
+use Rattle.std.proofs.Common.{ℕ, ◌+◌, ◌-◌, ◌*◌, ◌≤◌, arith, ◌≡◌, sym, ap, ◌∙◌, List, Float, length, take, drop, length-drop, length-take-le, take-take}
 use Rattle.loops.specs.Loop.{stores, ◌!◌}
 use Rattle.loops.proofs.Stores.{stores_in, length-stores}
 use Rattle.evaluation.specs.Sizes.{places}

@@ -1,12 +1,5 @@
 -- The calls over lent figures, from what their steps leave. Assumes nothing.
-use Prim.Native.Nat.{ℕ, ◌<◌}
-use mathlib.Core.Path.{◌≡◌, refl, sym, ap, ◌∙◌, subst}
-use mathlib.Core.Bool.{Bool, true, false, ◌&&◌}
-use mathlib.Core.List.{List}
-use lib.Dec.{eqb}
-use lib.Ieee.{Float}
-use lib.ListN.{length}
-use borrow.Author.Tests.{eq-eqb, ne_eqb}
+use Rattle.std.proofs.Common.{ℕ, ◌<◌, ◌≡◌, refl, sym, ap, ◌∙◌, subst, Bool, true, false, ◌&&◌, List, eqb, Float, length, eq-eqb, ne_eqb}
 use Rattle.loops.proofs.Bools.{both_true}
 use Rattle.evaluation.specs.Sizes.{answers_kept}
 use Rattle.std.specs.Prelude.{Result, Ok, Err, ⊤, Some, None}
@@ -21,14 +14,15 @@ use Rattle.session.specs.declared.Wish.{Wish}
 use Rattle.session.specs.declared.Phase.TheVariants.{Rest, Asking}
 use Rattle.session.specs.Tests.{tested, condition, unless}
 use Rattle.session.specs.Session.{Run, Sound, clear, used_jacobian, admits, good7, session_tests, progress}
-use Rattle.session.specs.Claims.{Closed}
-use Rattle.session.specs.Calls.{Outcome, outcome, tell, refuse_lent, nothing, begun, rested, answered, shown}
+use Rattle.session.specs.Claims.{Closed, Typed}
+use Rattle.session.specs.Calls.{Outcome, outcome, tell, refuse_lent, opened, nothing, begun, rested, answered, shown}
 use Rattle.session.specs.Calls.{open_call, attempt_tests, begin_tests, supply_tests, begin_call, supply_call}
 use Rattle.session.specs.Figures.{FIGURES, session_of, head_of, figures_of}
 use Rattle.session.specs.Lent.{told_by, refused_by, Remains, remains, left, fills, lent_call, lent_open, lent_fill}
 use Rattle.session.proofs.Laws.{passed_sound, wants_more, few_answers, begin_passes, begin_length, supply_passes, vector_length, attempt_row, begun_sound, answered_sound}
 use Rattle.session.proofs.Closed.{passed_good, good_closed, begun_good}
 use Rattle.session.proofs.Inverse.{figures_back}
+use Rattle.session.proofs.Drops.{rested_same}
 
 -- ---- begin
 
@@ -74,6 +68,13 @@ module _ (s : Session) (step : Float) (w : Wish) (j out : List Float) {k : Resul
       unfolding begin_call unless
       begin_stopped f back x n g d = rw (g, d ∙ back, ← e, z, ← same) f
 
+      -- 6: at rest again, as it was
+      pub begin_six : {out' : List Float} → refuse_lent s out' Why.Arithmetic ≡ shown s next out (progress next) → Typed s
+          → {l : Left} (x : List Float) (n : Head) → l ≡ refused_by n Why.Arithmetic → session_of n x ≡ rested next → outcome (told_by l x) out' ≡ begin_call s step w j out
+      begin_six f typed =
+          let back : rested (begun s step (Some w) j) ≡ rested s = unfold begun rested opened in refl in
+          begin_stopped f (ap rested same ∙ back ∙ rested_same s typed begin_rests)
+
 -- ---- supply
 
 module _ (s : Session) (x out : List Float) {k : Result ⊤ Refusal} (e : k ≡ tested (supply_tests s x (length out))) where
@@ -100,10 +101,10 @@ module _ (s : Session) (x out : List Float) {k : Result ⊤ Refusal} (e : k ≡ 
       unfolding supply_call unless
       supply_shown answer f = rw (← e, z, ← same) f
 
-      pub supply_stopped : {out' : List Float} → refuse_lent s out' Why.Arithmetic ≡ shown s next out (progress next)
+      pub supply_six : {out' : List Float} → refuse_lent s out' Why.Arithmetic ≡ shown s next out (progress next)
           → {l : Left} (y : List Float) (n : Head) → l ≡ refused_by n Why.Arithmetic → session_of n y ≡ s → outcome (told_by l y) out' ≡ supply_call s x out
       unfolding supply_call unless
-      supply_stopped f y n g d = rw (g, d, ← e, z, ← same) f
+      supply_six f y n g d = rw (g, d, ← e, z, ← same) f
 
 -- ---- what the calls over lent slices leave
 

@@ -1,18 +1,10 @@
 -- Places that are +0.0 and lists of finite numbers: of nothing, of a vector, and after one answer more. Assumes nothing.
-use Prim.Native.Nat.{ℕ, zero, suc, ◌+◌, ◌*◌, ◌/◌, ◌%◌, ◌<◌}
-use native.Mathlib.Decide.{dec_lt, ℕ_discrete}
-use native.Mathlib.Omega.{arith}
-use mathlib.Core.Path.{◌≡◌, refl, sym, ap, ◌∙◌}
-use mathlib.Core.Logic.{◌≢◌}
-use mathlib.Core.Bool.{Bool, true, false, ◌||◌, or-true, false≢true}
-use mathlib.Core.List.{List}
-use lib.Dec.{T, ltb}
-use lib.IntN.{ℤ}
+use Rattle.std.proofs.Common.{ℕ, zero, suc, ◌+◌, ◌*◌, ◌/◌, ◌%◌, ◌<◌, arith, ◌≡◌, refl, sym, ap, ◌∙◌, ◌≢◌, Bool, true, false, ◌||◌, List, T, ltb, ℤ, Float, length, replicate, ext_get_or, lt-ltb, ltb-true, eq-eqb, eqb-true}
+use Rattle.std.proofs.Math.Decide.{dec_lt, ℕ_discrete}
+use Rattle.std.proofs.Math.Bool.{or-true, false≢true}
 use lib.Count.{count_trailing_zeros}
-use lib.Ieee.{Float, nan, inf, fin, binary64, eq, fits, up, down, odd, of_bits, of_fields}
-use lib.ListN.{length, replicate, length-replicate, get_or-replicate}
-use lib.Seq.{ext_get_or}
-use borrow.Author.Tests.{lt-ltb, ltb-true, eq-eqb, eqb-true}
+use Rattle.std.specs.Float.Ieee.{nan, inf, fin, binary64, eq, fits, up, down, odd, of_bits, of_fields}
+use Rattle.std.proofs.Math.ListN.{length-replicate, get_or-replicate}
 use Rattle.loops.proofs.Bools.{both_true}
 use Rattle.loops.specs.Loop.{stores, ◌!◌}
 use Rattle.loops.proofs.Loops.{every_at, every_of}
@@ -20,7 +12,7 @@ use Rattle.loops.proofs.Stores.{length-stores, stores_in, stores_out}
 use Rattle.float.specs.Arith.{zero+, finite, plus_zero, abs}
 use Rattle.float.proofs.Floats.{abs-zero}
 use Rattle.evaluation.specs.Evaluation.{all_finite}
-use Rattle.engine.proofs.Columns.{zero-finite}
+use Rattle.engine.proofs.Differences.{zero-finite}
 use Rattle.methods.specs.Shape.{Vector}
 use Rattle.session.specs.Session.{clear, in_answers, clear_answers}
 use Rattle.session.specs.Claims.{Doubles}

@@ -1,15 +1,8 @@
 -- A session that an accepted call returns is refused by nothing but 7. Assumes nothing.
-use Prim.Native.Nat.{ℕ, ◌+◌, ◌<◌}
-use native.Mathlib.Decide.{ℕ_discrete}
-use native.Mathlib.Omega.{arith}
-use mathlib.Core.Path.{◌≡◌, refl, sym, subst}
-use mathlib.Core.Logic.{◌⊎◌, inl, inr}
-use mathlib.Core.Bool.{Bool, true, false, cond, ◌&&◌, false≢true}
-use mathlib.Core.List.{List, [], ◌∷◌}
-use lib.Dec.{ltb, leb, eqb}
-use lib.Ieee.{Float, of_bits}
-use lib.ListN.{length}
-use borrow.Author.Tests.{le-leb}
+use Rattle.std.proofs.Common.{ℕ, ◌+◌, ◌<◌, arith, ◌≡◌, refl, sym, subst, ◌⊎◌, inl, inr, Bool, true, false, cond, ◌&&◌, List, [], ◌∷◌, ltb, leb, eqb, Float, length, le-leb}
+use Rattle.std.proofs.Math.Decide.{ℕ_discrete}
+use Rattle.std.proofs.Math.Bool.{false≢true}
+use Rattle.std.specs.Float.Ieee.{of_bits}
 use Rattle.loops.proofs.Bools.{both_true}
 use Rattle.float.specs.Arith.{◌⊕◌, zero+, finite, plus_zero}
 use Rattle.evaluation.specs.Evaluation.{all_finite}

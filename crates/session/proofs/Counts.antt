@@ -1,13 +1,5 @@
 -- How many answers an attempt has where a call asks, and where it is ready. Assumes nothing.
-use Prim.Native.Nat.{ℕ, ◌+◌, ◌-◌, ◌*◌, ◌≤◌, ◌<◌}
-use mathlib.Core.Path.{◌≡◌, refl, subst}
-use mathlib.Core.Bool.{Bool, true, false, cond}
-use mathlib.Core.List.{List}
-use native.Mathlib.Omega.{arith}
-use lib.Dec.{ltb}
-use lib.Ieee.{Float}
-use lib.ListN.{take}
-use borrow.Author.Tests.{ltb-true, ltb-false}
+use Rattle.std.proofs.Common.{ℕ, ◌+◌, ◌-◌, ◌*◌, ◌≤◌, ◌<◌, ◌≡◌, refl, subst, Bool, true, false, cond, List, arith, ltb, Float, take, ltb-true, ltb-false}
 use Rattle.loops.specs.Loop.{every, mat}
 use Rattle.evaluation.specs.Evaluation.{all_finite}
 use Rattle.methods.specs.Step.{questions, Progress, refused, asking, ended}

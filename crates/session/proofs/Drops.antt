@@ -1,13 +1,7 @@
 -- What drop brings back, and what becomes of the session of a refused open. Assumes nothing.
-use Prim.Native.Nat.{ℕ, ◌/◌, ◌≤◌, ◌<◌}
-use native.Mathlib.Omega.{arith}
-use mathlib.Core.Path.{◌≡◌, refl, sym, ap, ◌∙◌}
-use mathlib.Core.Bool.{Bool, true, false}
-use mathlib.Core.List.{List, [], ◌∷◌, ◌++◌}
-use lib.Dec.{ltb, leb-suc-zero}
-use lib.Ieee.{Float, le}
-use lib.ListN.{length, replicate}
-use borrow.Author.Tests.{leb-true}
+use Rattle.std.proofs.Common.{ℕ, ◌/◌, ◌≤◌, ◌<◌, arith, ◌≡◌, refl, sym, ap, ◌∙◌, Bool, true, false, List, [], ◌∷◌, ◌++◌, ltb, Float, length, replicate, leb-true}
+use Rattle.std.proofs.Math.Dec.{leb-suc-zero}
+use Rattle.std.specs.Float.Ieee.{le}
 use Rattle.loops.proofs.Loops.{every_at}
 use Rattle.loops.specs.Loop.{◌!◌}
 use Rattle.float.specs.Arith.{zero+, epsilon, plus_zero}

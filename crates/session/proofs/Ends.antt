@@ -1,11 +1,5 @@
 -- What an attempt that has ended ends in: finite vectors of the dimension. Assumes nothing.
-use Prim.Native.Nat.{ℕ, ◌-◌, ◌*◌, ◌≤◌}
-use mathlib.Core.Path.{◌≡◌, refl, subst}
-use mathlib.Core.Bool.{Bool, true, false, cond}
-use mathlib.Core.List.{List}
-use lib.Dec.{ltb}
-use lib.Ieee.{Float}
-use lib.ListN.{take}
+use Rattle.std.proofs.Common.{ℕ, ◌-◌, ◌*◌, ◌≤◌, ◌≡◌, refl, subst, Bool, true, false, cond, List, ltb, Float, take}
 use Rattle.std.specs.Prelude.{Option, Some, None}
 use Rattle.loops.specs.Loop.{every, mat}
 use Rattle.evaluation.specs.Evaluation.{all_finite}

@@ -1,13 +1,8 @@
 -- A session's numbers and figures are its own, and figures are those of the session that they hold. Assumes nothing.
-use Prim.Native.Nat.{ℕ, zero, suc, ◌+◌, ◌≤◌, ◌<◌}
-use native.Mathlib.Nat.{zero-add, suc-add}
-use native.Mathlib.Numerals.{add-one}
-use native.Mathlib.Omega.{arith}
-use mathlib.Core.Path.{◌≡◌, refl, sym, ap, ◌∙◌}
-use mathlib.Core.List.{List, [], ◌∷◌, ◌++◌, append_assoc}
-use lib.Ieee.{Float, nan}
-use lib.ListN.{length, set, take, drop, get_or, replicate, length-append, length-drop, length-replicate, get_or-append, get_or-replicate, take-append-drop}
-use lib.Seq.{ext_get_or, get_or-append-add, set-get_or, length-take-le}
+use Rattle.std.proofs.Common.{ℕ, zero, suc, ◌+◌, ◌≤◌, ◌<◌, zero-add, suc-add, add-one, arith, ◌≡◌, refl, sym, ap, ◌∙◌, List, [], ◌∷◌, ◌++◌, append_assoc, Float, length, set, take, drop, get_or, replicate, length-append, length-drop, take-append-drop, ext_get_or, get_or-append-add, length-take-le}
+use Rattle.std.specs.Float.Ieee.{nan}
+use Rattle.std.proofs.Math.ListN.{length-replicate, get_or-append, get_or-replicate}
+use Rattle.std.proofs.Math.Seq.{set-get_or}
 use borrow.Rule.Slice.PartMut.{put_mid}
 use Rattle.loops.specs.Loop.{tab, from, fill, stores, ◌!◌}
 use Rattle.loops.proofs.Loops.{length-tab, get_or-tab, tab_at, fill_none, fill_step, stores_none}

@@ -1,9 +1,6 @@
 -- A refused call, by its outcome's number, returns the session as it came. Assumes nothing.
-use mathlib.Core.Path.{◌≡◌, refl}
-use mathlib.Core.Bool.{Bool, true, false, cond, false≢true}
-use mathlib.Core.List.{List}
-use lib.Ieee.{Float}
-use lib.ListN.{length}
+use Rattle.std.proofs.Common.{◌≡◌, refl, Bool, true, false, cond, List, Float, length}
+use Rattle.std.proofs.Math.Bool.{false≢true}
 use Rattle.std.specs.Prelude.{Some}
 use Rattle.float.specs.Arith.{◌⊕◌, finite}
 use Rattle.methods.specs.Step.{Progress, refused, asking, ended}

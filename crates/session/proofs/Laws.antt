@@ -6,7 +6,7 @@ use Rattle.session.specs.declared.Wish.TheVariants.{Given, Difference}
 use Rattle.session.specs.declared.Refusal.{Refusal}
 use Rattle.session.specs.declared.Refusal.TheVariants as Why
 use Rattle.session.specs.Tests.{Tests, tested, condition, unless}
-use Rattle.session.specs.Session.{schemes, largest, fresh, wanted, wanted_by, phase_at, phase_of, phase_number, admits, size_ok, run_places, attempt_places}
+use Rattle.session.specs.Session.{schemes, fresh, wanted, wanted_by, phase_at, phase_of, phase_number, admits, size_ok, run_places, attempt_places}
 use Rattle.float.specs.Arith.{finite}
 use Rattle.evaluation.specs.Evaluation.{all_finite}
 use Rattle.session.specs.Session.{good1, history_ok, good2, good3, good7, session_tests, used_jacobian, Sound, clear}
@@ -23,25 +23,18 @@ use Rattle.methods.proofs.Made.{taken_is, untaken}
 use Rattle.session.specs.Bare.{bare, refuse_bare, exponential_tests, phi_tests, norm_tests}
 use Rattle.session.specs.Calls.{outcome, tell, refuse, refuse_lent, begun, answered, vector_tests, attempt_tests, begin_tests, supply_tests}
 use Rattle.session.specs.Calls.{accept_tests, first_step_tests, shown, arrived, settled, ready_of}
-use Prim.Native.Nat.{ℕ, ◌+◌, ◌*◌, ◌≤◌, ◌<◌}
-use mathlib.Core.Path.{◌≡◌, refl, sym, ◌∙◌}
-use mathlib.Core.Bool.{Bool, true, false, cond, ◌&&◌, false≢true}
-use mathlib.Core.List.{List, ◌++◌}
-use native.Mathlib.Omega.{arith}
-use lib.Dec.{leb, ltb, eqb}
-use lib.Ieee.{Float}
-use lib.ListN.{length}
-use borrow.Author.Tests.{leb-true, ltb-true, eqb-true}
+use Rattle.std.proofs.Common.{ℕ, zero, suc, ◌*◌, ◌≤◌, ◌<◌, ◌≡◌, refl, Bool, true, false, cond, ◌&&◌, List, ◌++◌, arith, leb, ltb, eqb, Float, length, leb-true, ltb-true, eqb-true, mul-le-mul}
+use Rattle.std.proofs.Math.Bool.{false≢true}
+use Rattle.std.proofs.lemmas.Bool.{lt-leb}
+use Rattle.std.proofs.Math.Bool.{and-false}
 use Rattle.loops.specs.Loop.{tab, ◌!◌}
-use native.Mathlib.Nat.{mul-le-mul}
 use Rattle.std.specs.Prelude.{Option, Some, None}
-use Rattle.methods.specs.declared.StepResult.{StepResult}
 use Rattle.methods.specs.declared.Work.{Work}
 use Rattle.methods.specs.declared.StepResult.TheVariants.{Question, Done}
 use Rattle.session.specs.declared.Session.{Session}
 use Rattle.session.specs.declared.Told.{Told}
 use Rattle.session.specs.declared.Answer.{Answer}
-use Rattle.session.specs.declared.Answer.TheVariants.{Ask, Resting, Filled}
+use Rattle.session.specs.declared.Answer.TheVariants.{Ask, Filled}
 use Rattle.session.specs.declared.Phase.{Phase}
 use Rattle.session.specs.declared.Phase.TheVariants.{Rest, Asking, Waiting}
 use Rattle.session.specs.declared.Wish.{Wish}
@@ -139,7 +132,7 @@ accept_passes s x e = both_pass (session_tests (Some Waiting) s) _ e
 
 pub first_step_passes : (s : Session) (largest : Float) → tested (first_step_tests s largest) ≡ Ok tt → tested (session_tests None s) ≡ Ok tt
 unfolding first_step_tests
-first_step_passes s largest e = (both_pass (session_tests None s) _ e).0
+first_step_passes s most e = (both_pass (session_tests None s) _ e).0
 
 pub attempt_row : (n : ℕ) (h : Float) (a : Option Wish) (j : List Float) (lent : ℕ) → tested (attempt_tests n h a j lent) ≡ Ok tt
     → (why : Refusal) → condition why (attempt_tests n h a j lent) ≡ true
@@ -274,11 +267,30 @@ phi_sized n order scaleA a input lent e =
       places = eqb-true lent n t.1;
     }
 
-pub norm_sized : (n : ℕ) (relative : Float) (absolute error state candidate : List Float) → tested (norm_tests n relative absolute error state candidate) ≡ Ok tt → (1 ≤ n) × (n ≤ 16)
+-- an order that is none
+pub phi_unordered : (n order : ℕ) (scaleA : Float) (a input : List Float) (lent : ℕ) → (1 ≤ order → 4 < order) → tested (phi_tests n order scaleA a input lent) ≡ Err Why.Places
+unfolding phi_tests tested
+phi_unordered n zero scaleA a input lent far = rw (and-false (size_ok n))
+phi_unordered n (suc k) scaleA a input lent far = rw (lt-leb (suc k) 4 (far (omega arith)), and-false (size_ok n && leb 1 (suc k)))
+
+-- 1, of the error norm
+abbrev pub placed : ℕ → List Float → List Float → List Float → List Float → Bool
+placed n absolute error state candidate = size_ok n && clear n absolute && clear n error && clear n state && clear n candidate
+
+pub placed_sized : (n : ℕ) (absolute error state candidate : List Float) → placed n absolute error state candidate ≡ true → (1 ≤ n) × (n ≤ 16)
 unfolding size_ok
-norm_sized n relative absolute error state candidate e =
-    let p = both_true (leb 1 n && leb n 16 && clear n absolute && clear n error && clear n state) (clear n candidate)
-    (unfold condition norm_tests in passes (norm_tests n relative absolute error state candidate) e Why.Places) in
+placed_sized n absolute error state candidate e =
+    let p = both_true (leb 1 n && leb n 16 && clear n absolute && clear n error && clear n state) (clear n candidate) e in
     let q = both_true (leb 1 n && leb n 16 && clear n absolute && clear n error) (clear n state) p.0 in
     let t = both_true (leb 1 n && leb n 16 && clear n absolute) (clear n error) q.0 in
     size_both n (both_true (leb 1 n && leb n 16) (clear n absolute) t.0).0
+
+pub placed_by : {a b c d : Bool} (n : ℕ) (absolute error state candidate : List Float)
+    → a ≡ clear n absolute → b ≡ clear n error → c ≡ clear n state → d ≡ clear n candidate
+    → (leb 1 n && leb n 16 && a && b && c && d) ≡ placed n absolute error state candidate
+unfolding size_ok
+placed_by n absolute error state candidate e f g h = rw (e, f, g, h)
+
+pub norm_sized : (n : ℕ) (relative : Float) (absolute error state candidate : List Float) → tested (norm_tests n relative absolute error state candidate) ≡ Ok tt → (1 ≤ n) × (n ≤ 16)
+norm_sized n relative absolute error state candidate e =
+    placed_sized n absolute error state candidate (unfold condition norm_tests in passes (norm_tests n relative absolute error state candidate) e Why.Places)

@@ -1,13 +1,7 @@
 -- The error norm that a call tells is never a NaN. Assumes nothing.
-use Prim.Native.Nat.{ℕ, ◌*◌, ◌≤◌, ◌<◌}
-use mathlib.Core.Path.{◌≡◌, refl, sym, subst}
-use mathlib.Core.Bool.{Bool, true, false, cond, ◌&&◌}
-use mathlib.Core.List.{List}
-use native.Mathlib.Omega.{arith}
-use lib.Dec.{T, ltb→lt, lt→ltb}
-use lib.Ieee.{Float, nan, inf, fin, binary64, up, down, fits, is_nan, lt, odd, of_bits, of_fields}
+use Rattle.std.proofs.Common.{ℕ, ◌*◌, ◌≤◌, ◌<◌, ◌≡◌, refl, sym, subst, Bool, true, false, cond, ◌&&◌, List, arith, T, ltb→lt, lt→ltb, Float, length}
+use Rattle.std.specs.Float.Ieee.{nan, inf, fin, binary64, up, down, fits, is_nan, lt, odd, of_bits, of_fields}
 use lib.Ieee.Positive.{positive as above0, first_pos}
-use lib.ListN.{length}
 use Rattle.loops.proofs.Bools.{both_true}
 use Rattle.loops.proofs.Loops.{every_at}
 use Rattle.loops.specs.Loop.{every, ◌!◌}

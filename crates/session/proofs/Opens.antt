@@ -1,8 +1,7 @@
 -- The tests of a run that is to be opened: its attempt holds nothing. Assumes nothing.
-use mathlib.Core.Path.{◌≡◌, refl, sym, ◌∙◌}
-use mathlib.Core.Bool.{Bool, true, false, cond, not, ◌&&◌, and-true}
-use mathlib.Core.List.{List, [], ◌∷◌}
-use lib.Ieee.{Float, of_bits}
+use Rattle.std.proofs.Common.{◌≡◌, refl, ◌∙◌, Bool, true, false, cond, ◌&&◌, [], ◌∷◌}
+use Rattle.std.proofs.Math.Bool.{and-true}
+use Rattle.std.specs.Float.Ieee.{of_bits}
 use Rattle.float.specs.Arith.{finite, plus_zero}
 use Rattle.evaluation.specs.Evaluation.{all_finite}
 use Rattle.evaluation.specs.Sizes.{answer_room}
@@ -12,9 +11,6 @@ use Rattle.session.specs.declared.Refusal.TheVariants as Why
 use Rattle.session.specs.Tests.{tested}
 use Rattle.session.specs.Session.{Run, jacobian_room, fresh, idle, clear, used_history, used_jacobian, step_clear, size_ok, run_places, attempt_places}
 use Rattle.session.specs.Session.{good1, good2, good3, good4, good5, good7, admits, tolerances_ok, session_tests}
-use Rattle.loops.proofs.Bools.{both_true}
-use Rattle.session.specs.declared.Head.{Head}
-use Rattle.session.specs.Figures.{session_of}
 use Rattle.session.specs.Calls.{opened}
 use Rattle.session.proofs.Clear.{clear-zeros, clear-answers-zeros, finite-zeros}
 
@@ -27,10 +23,6 @@ module _ (r : Run) where
   -- the places in use of the run
   abbrev pub open_places : Bool
   open_places = clear r.n r.absolute && clear r.n r.state && clear r.n r.derivative && clear (used_history r.history r.n) r.previous
-
-  -- its arrays
-  abbrev pub open_finite : Bool
-  open_finite = all_finite r.state && all_finite r.derivative && all_finite r.previous
 
   idle-places : attempt_places (opened r) ≡ true
   unfolding attempt_places opened idle fresh step_clear used_jacobian plus_zero of_bits
@@ -62,29 +54,3 @@ module _ (r : Run) where
       ∷ (finite r.time && all_finite r.state && all_finite r.derivative && all_finite r.previous, Why.NotFinite) ∷ [])
   unfolding session_tests good7 admits tested
   opening = rw (places, figures, tolerances, no_step) (one_row (size_ok r.n) open_places _ (Err Why.Places))
-
--- the test of 3 as the code makes it: the arrays first
-pub time_and_arrays : {t a b c t' a' b' c' : Bool} → t ≡ t' → a ≡ a' → b ≡ b' → c ≡ c' → (t && (a && b && c)) ≡ (t' && a' && b' && c')
-time_and_arrays {t' = true} e f g h = rw (e, f, g, h)
-time_and_arrays {t' = false} e f g h = rw e
-
--- a test as the code took it
-pub true_not : {b : Bool} → b ≡ true → not b ≡ false
-true_not e = rw e
-
-pub false_not : {b : Bool} → b ≡ false → not b ≡ true
-false_not e = rw e
-
--- each array is finite where all are
-pub each_finite : {a b c : Bool} (x y z : List Float) → a ≡ all_finite x → b ≡ all_finite y → c ≡ all_finite z → (a && b && c) ≡ true
-    → (all_finite x ≡ true) × (all_finite y ≡ true) × (all_finite z ≡ true)
-each_finite {a} {b} {c} x y z e f g h =
-    let p = both_true (a && b) c h in
-    let q = both_true a b p.0 in
-    (sym e ∙ q.0, sym f ∙ q.1, sym g ∙ p.1)
-
--- the test of 2, from the numbers that the code has
-pub opened-good2 : (k : Head) (r : Run) → k.attempt ≡ None → k.count ≡ 0 → k.scheme ≡ r.scheme → k.n ≡ r.n → k.history ≡ r.history
-    → {b : Bool} → b ≡ good2 (session_of k []) → b ≡ good2 (opened r)
-unfolding good2 session_of opened idle fresh
-opened-good2 k r none zero-count scheme n history e = rw (none, zero-count, scheme, n, history) at e

@@ -1,29 +1,17 @@
 -- Figures one behind the other: what is read after a run of stores, and a session's numbers and figures as its own. Assumes nothing.
-use Prim.Native.Nat.{ℕ, zero, suc, ◌+◌, ◌-◌, ◌≤◌, ◌<◌}
-use native.Mathlib.Nat.{zero-add, suc-add, add_assoc}
-use native.Mathlib.Decide.{dec_lt}
-use native.Mathlib.Omega.{arith}
-use mathlib.Core.Path.{◌≡◌, refl, sym, ap, ◌∙◌, subst}
-use mathlib.Core.Logic.{◌≢◌}
-use mathlib.Core.Bool.{Bool, true, false, ◌&&◌}
-use mathlib.Core.List.{List, [], ◌∷◌}
-use lib.Dec.{T}
-use lib.Ieee.{Float, nan, binary64, fits}
-use lib.ListN.{length, set, take, drop, replicate, length-drop, length-replicate, get_or-replicate}
-use lib.Seq.{get_or-set_other, length-take-le}
-use Rattle.loops.proofs.Bools.{both_true}
-use Rattle.loops.specs.Loop.{stores, every, ◌!◌}
-use Rattle.loops.proofs.Loops.{every_ext, length-tab, tab_at, past_end}
+use Rattle.std.proofs.Common.{ℕ, zero, suc, ◌+◌, ◌-◌, ◌≤◌, ◌<◌, zero-add, suc-add, arith, ◌≡◌, refl, sym, ap, ◌∙◌, subst, ◌≢◌, Bool, List, [], ◌∷◌, T, Float, length, set, take, drop, replicate, length-drop, get_or-set_other, length-take-le}
+use Rattle.std.proofs.Math.Decide.{dec_lt}
+use Rattle.std.specs.Float.Ieee.{nan, binary64, fits}
+use Rattle.std.proofs.Math.ListN.{length-replicate, get_or-replicate}
+use Rattle.loops.specs.Loop.{stores, ◌!◌}
+use Rattle.loops.proofs.Loops.{length-tab, tab_at, past_end}
 use Rattle.loops.proofs.Stores.{is_tab, tab_ext, stores_out, stores_in, length-stores}
-use Rattle.float.specs.Arith.{zero+, finite}
-use Rattle.evaluation.specs.Evaluation.{all_finite}
+use Rattle.float.specs.Arith.{zero+}
 use Rattle.evaluation.specs.Sizes.{places, answer_room}
 use Rattle.session.specs.declared.Head.{Head}
-use Rattle.session.specs.Session.{jacobian_room, good3, tolerances_ok, good4, good5}
+use Rattle.session.specs.Session.{jacobian_room, good5}
 use Rattle.session.specs.Claims.{Doubles, Typed}
 use Rattle.session.specs.Figures.{FIGURES, time_at, step_at, relative_at, absolute_at, state_at, derivative_at, previous_at, jacobian_at, answers_at}
-use Rattle.session.proofs.Blank.{every_split}
-use Rattle.session.specs.Lent.{arrays_finite}
 use Rattle.session.specs.Figures.{part, session_of}
 
 -- ---- parts
@@ -154,77 +142,10 @@ typed_of k x s d = record {
         go i (yes l) = subst (λ (v : Float). T (fits binary64 v)) (sym (part_at x at n i l)) (d.fit (at + i))
         go i (no l) = past at n i l
 
--- ---- finite parts
-
-finite_each : (x : List Float) (at n : ℕ) → all_finite (part x at n) ≡ every n (λ i. finite (x ! (at + i)))
-unfolding all_finite
-finite_each x at n =
-    ap (λ (k : ℕ). every k (λ p. finite (part x at n ! p))) (length_part x at n)
-    ∙ every_ext n _ _ (λ i l. ap finite (part_at x at n i l))
-
-finite_split : (x : List Float) (at m n : ℕ) → all_finite (part x at (m + n)) ≡ (all_finite (part x at m) && all_finite (part x (at + m) n))
-finite_split x at m n =
-    finite_each x at (m + n)
-    ∙ every_split m n _
-    ∙ ap (λ (b : Bool). every m (λ i. finite (x ! (at + i))) && b) (every_ext n _ _ (λ i l. ap (λ (k : ℕ). finite (x ! k)) (sym (add_assoc at m i))))
-    ∙ sym (rw (finite_each x at m, finite_each x (at + m) n))
-
--- the arrays are one stretch
-pub all_arrays : (k : Head) (x : List Float) → length x ≡ FIGURES → all_finite (take (FIGURES - state_at) (drop state_at x)) ≡ arrays_finite (session_of k x)
-unfolding session_of
-all_arrays k x e =
-    ap all_finite (slice_part x state_at (FIGURES - state_at) (omega arith))
-    ∙ finite_split x state_at (answers_at - state_at) answer_room
-    ∙ ap (λ (b : Bool). b && all_finite (part x answers_at 320)) (finite_split x state_at (jacobian_at - state_at) jacobian_room
-    ∙ ap (λ (b : Bool). b && all_finite (part x jacobian_at 256)) (finite_split x state_at (previous_at - state_at) places
-    ∙ ap (λ (b : Bool). b && all_finite (part x previous_at 16)) (finite_split x state_at places places)))
-
--- the test of 3: the time first, then the arrays
-after_all : (t a b c d e : Bool) → (t && (a && b && c && d && e)) ≡ (t && a && b && c && d && e)
-after_all true a b c d e = refl
-after_all false a b c d e = refl
-
-pub time_then : (k : Head) (x : List Float) {a b : Bool} → a ≡ finite (x ! time_at) → b ≡ arrays_finite (session_of k x) → (a && b) ≡ good3 (session_of k x)
-unfolding good3
-time_then k x {a} {b} e f =
-    let t : a ≡ finite (session_of k x).time = unfold session_of in e in
-    rw (t, f) (after_all (finite (session_of k x).time) _ _ _ _ _)
-
--- the tests of 4 and of 5, from what the code reads
-pub run_tolerances : (k : Head) (x : List Float) {a : List Float} {b : Bool} → a ≡ part x absolute_at places → b ≡ tolerances_ok k.n (x ! relative_at) a → b ≡ good4 (session_of k x)
-unfolding good4 session_of
-run_tolerances k x l e = e ∙ ap (tolerances_ok k.n (x ! relative_at)) l
-
+-- the test of 5, from what the code reads
 pub attempt_step : (k : Head) (x : List Float) {b : Bool} → b ≡ good5 k.attempt (x ! step_at) → b ≡ good5 (session_of k x).attempt (session_of k x).step
 unfolding session_of
 attempt_step k x e = e
-
--- a part of the arrays is finite where all are
-module _ (k : Head) (x : List Float) (e : arrays_finite (session_of k x) ≡ true) where
-  finite_1 : (all_finite (session_of k x).state && all_finite (session_of k x).derivative && all_finite (session_of k x).previous && all_finite (session_of k x).jacobian) ≡ true
-  finite_1 = (both_true _ (all_finite (session_of k x).answers) e).0
-
-  finite_2 : (all_finite (session_of k x).state && all_finite (session_of k x).derivative && all_finite (session_of k x).previous) ≡ true
-  finite_2 = (both_true _ (all_finite (session_of k x).jacobian) finite_1).0
-
-  finite_3 : (all_finite (session_of k x).state && all_finite (session_of k x).derivative) ≡ true
-  finite_3 = (both_true _ (all_finite (session_of k x).previous) finite_2).0
-
-  pub state_calm : all_finite (session_of k x).state ≡ true
-  state_calm = (both_true _ (all_finite (session_of k x).derivative) finite_3).0
-
-  pub derivative_calm : all_finite (session_of k x).derivative ≡ true
-  derivative_calm = (both_true (all_finite (session_of k x).state) _ finite_3).1
-
-  pub previous_calm : all_finite (session_of k x).previous ≡ true
-  previous_calm = (both_true (all_finite (session_of k x).state && all_finite (session_of k x).derivative) _ finite_2).1
-
-  pub jacobian_calm : all_finite (session_of k x).jacobian ≡ true
-  jacobian_calm = (both_true (all_finite (session_of k x).state && all_finite (session_of k x).derivative && all_finite (session_of k x).previous) _ finite_1).1
-
-  pub answers_calm : all_finite (session_of k x).answers ≡ true
-  answers_calm =
-      (both_true (all_finite (session_of k x).state && all_finite (session_of k x).derivative && all_finite (session_of k x).previous && all_finite (session_of k x).jacobian) _ e).1
 
 -- the Jacobian as a part of the lent figures
 pub jacobian_slice : (k : Head) (x : List Float) → length x ≡ FIGURES → take jacobian_room (drop jacobian_at x) ≡ (session_of k x).jacobian

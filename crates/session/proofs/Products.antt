@@ -1,11 +1,5 @@
 -- How far the exponentials went, as a call tells it, is bounded. Assumes nothing.
-use Prim.Native.Nat.{ℕ, ◌-◌, ◌*◌, ◌≤◌}
-use mathlib.Core.Path.{◌≡◌, refl, sym, subst}
-use mathlib.Core.Bool.{Bool, true, false, cond}
-use mathlib.Core.List.{List}
-use native.Mathlib.Omega.{arith}
-use lib.Ieee.{Float}
-use lib.ListN.{length}
+use Rattle.std.proofs.Common.{ℕ, ◌-◌, ◌*◌, ◌≤◌, ◌≡◌, refl, sym, subst, Bool, true, false, cond, List, arith, Float, length}
 use Rattle.loops.specs.Loop.{◌!◌}
 use Rattle.matrix.specs.Matrix.{admitted, Few}
 use Rattle.matrix.specs.Vector.{vec}

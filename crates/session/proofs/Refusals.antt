@@ -1,11 +1,5 @@
--- Demand 1 of the definitions: the number of each call, and what a refusal leaves. Assumes nothing.
-use Prim.Native.Nat.{ℕ}
-use mathlib.Core.Path.{◌≡◌, refl}
-use mathlib.Core.Logic.{inl, inr}
-use mathlib.Core.Bool.{Bool, true, false, cond}
-use mathlib.Core.List.{List, [], ◌∷◌, ◌++◌}
-use lib.Ieee.{Float}
-use lib.ListN.{length}
+-- Of the definitions, the number of each call, and what a refusal leaves. Assumes nothing.
+use Rattle.std.proofs.Common.{ℕ, ◌≡◌, refl, inl, inr, Bool, true, false, cond, List, [], ◌∷◌, ◌++◌, Float, length}
 use Rattle.loops.specs.Loop.{tab, ◌!◌}
 use Rattle.float.specs.Arith.{◌⊕◌, finite}
 use Rattle.matrix.specs.Matrix.{admitted, exponential}

@@ -1,13 +1,6 @@
 -- Each of the n tolerances counts, and no place past them does. Assumes nothing.
-use Prim.Native.Nat.{ℕ, ◌≤◌, ◌<◌}
-use native.Mathlib.Omega.{arith}
-use mathlib.Core.Path.{◌≡◌, refl, sym, ◌∙◌}
-use mathlib.Core.Bool.{Bool, true, false, cond, ◌||◌, true≢false, and-false}
-use mathlib.Core.List.{List}
-use lib.Dec.{ltb}
-use lib.Ieee.{Float}
-use lib.ListN.{length}
-use borrow.Author.Tests.{le-ltb}
+use Rattle.std.proofs.Common.{ℕ, ◌≤◌, ◌<◌, arith, ◌≡◌, refl, sym, ◌∙◌, Bool, true, false, cond, ◌||◌, true≢false, List, ltb, Float, length, le-ltb}
+use Rattle.std.proofs.Math.Bool.{and-false}
 use Rattle.loops.specs.Loop.{every, ◌!◌}
 use Rattle.loops.proofs.Loops.{every_at, every_of}
 use Rattle.float.specs.Arith.{plus_zero}

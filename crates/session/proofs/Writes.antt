@@ -1,17 +1,8 @@
 -- What the stores of a call leave of the session whose figures they change. Assumes nothing.
-use Prim.Native.Nat.{ℕ, ◌+◌, ◌*◌, ◌/◌, ◌≤◌, ◌<◌}
-use native.Mathlib.Nat.{zero-add}
-use native.Mathlib.Decide.{dec_lt}
-use native.Mathlib.Omega.{arith}
-use mathlib.Core.Path.{◌≡◌, refl, sym, ap, ◌∙◌, subst}
-use mathlib.Core.Logic.{◌≢◌}
-use mathlib.Core.Bool.{Bool, true, false, ◌||◌}
-use mathlib.Core.List.{List}
-use lib.Dec.{T, ltb, eqb}
-use lib.Ieee.{Float, nan, binary64, fits}
-use lib.ListN.{length, set, take, replicate, length-set, length-replicate, get_or-replicate}
-use lib.Seq.{ext_get_or, get_or-set_same, get_or-set_other, get_or-take, length-take-le}
-use borrow.Author.Tests.{le-ltb}
+use Rattle.std.proofs.Common.{ℕ, ◌+◌, ◌*◌, ◌/◌, ◌≤◌, ◌<◌, zero-add, arith, ◌≡◌, refl, sym, ap, ◌∙◌, subst, ◌≢◌, Bool, true, false, ◌||◌, List, T, ltb, eqb, Float, length, set, take, replicate, length-set, ext_get_or, get_or-set_same, get_or-set_other, get_or-take, length-take-le, le-ltb}
+use Rattle.std.proofs.Math.Decide.{dec_lt}
+use Rattle.std.specs.Float.Ieee.{nan, binary64, fits}
+use Rattle.std.proofs.Math.ListN.{length-replicate, get_or-replicate}
 use Rattle.loops.proofs.Loops.{every_at}
 use Rattle.loops.proofs.Stores.{stores_out, stores_in, length-stores}
 use Rattle.loops.specs.Loop.{stores, ◌!◌}

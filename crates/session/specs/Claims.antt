@@ -87,7 +87,7 @@ pub record Closes : Type 0 where
   -- so no call of a run from an accepted opening on meets 1 to 5 because of the session
   pub run : (r : Run) (cs : List Call) → number (open_call r).answer ≡ 0 → TypedCalls cs → Closed (after (open_call r).session cs)
 
--- ---- request 1: each of the n tolerances counts, and no place past them does
+-- ---- each of the n tolerances counts, and no place past them does
 
 pub record Tolerances : Type 0 where
   -- one of the n that is not finite and positive fails the test of 4
@@ -97,7 +97,7 @@ pub record Tolerances : Type 0 where
   -- one past n that is not +0.0 fails the test of 1
   pub past : (s : Session) → length s.absolute ≡ places → (i : ℕ) → s.n ≤ i → i < places → plus_zero (s.absolute ! i) ≡ false → good1 s ≡ false
 
--- ---- request 2: how far the exponentials went
+-- ---- how far the exponentials went
 
 -- the exponentials of a session's pass
 abbrev pub exponentials_of : Session → ℕ

@@ -1,15 +1,16 @@
 -- The calls over lent figures: what each leaves of the session whose figures it was lent. Definitions only.
-use Rattle.std.specs.Prelude.{ℕ, ◌*◌, Bool, cond, ◌&&◌, List, Float, take, Result, Ok, Err, None}
+use Rattle.std.specs.Prelude.{ℕ, ◌*◌, Bool, cond, List, Float, take, Result, Ok, Err, None}
 use Rattle.session.specs.declared.Session.{Session}
 use Rattle.session.specs.declared.Head.{Head}
 use Rattle.session.specs.declared.History.{History}
 use Rattle.session.specs.declared.Left.{Left}
+use Rattle.session.specs.declared.lent.Lent.{Lent}
+use Rattle.session.specs.declared.attempt.Attempt.{Attempt}
 use Rattle.session.specs.declared.Told.{Told}
 use Rattle.session.specs.declared.Answer.{Answer}
 use Rattle.session.specs.declared.Answer.TheVariants.{Resting}
 use Rattle.session.specs.declared.Refusal.{Refusal}
 use Rattle.session.specs.declared.Refusal.TheVariants as Why
-use Rattle.evaluation.specs.Evaluation.{all_finite}
 use Rattle.loops.specs.Loop.{mat}
 use Rattle.methods.specs.Step.{Progress}
 use Rattle.engine.specs.Engine.{perturbed, jacobian_entry, column_ok}
@@ -19,9 +20,13 @@ use Rattle.session.specs.Figures.{session_of, head_of, figures_of}
 
 -- ---- what the code's steps hand on
 
--- 3, of the arrays that it tests: all but the tolerances
-abbrev pub arrays_finite : Session → Bool
-arrays_finite s = all_finite s.state && all_finite s.derivative && all_finite s.previous && all_finite s.jacobian && all_finite s.answers
+-- the session over the figures that are lent
+abbrev pub lent : Lent → Session
+lent s = session_of s.head s.figures.now
+
+-- the session whose attempt it is
+abbrev pub tried : Attempt → Session
+tried a = session_of a.head a.figures.now
 
 -- the head of a run that is to be opened
 abbrev pub unopened : ℕ → ℕ → History → Head

@@ -1,4 +1,4 @@
--- A session of the layout before request 1, with one absolute tolerance, and how it is brought over. Definitions only.
+-- A session of the older layout, with one absolute tolerance, and how it is brought over. Definitions only.
 use Rattle.std.specs.Prelude.{ℕ, ◌+◌, ◌≤◌, ◌<◌, ◌≡◌, Bool, false, cond, ◌&&◌, List, [], ◌∷◌, ltb, Float, Result, Ok, Err, Option}
 use Rattle.loops.specs.Loop.{tab, ◌!◌}
 use Rattle.float.specs.Arith.{zero+}

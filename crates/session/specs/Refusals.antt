@@ -1,4 +1,4 @@
--- Demand 1, read off the definitions of the calls: which number a call gives, and what a refusal leaves. Definitions only.
+-- Read off the definitions of the calls: which number a call gives, and what a refusal leaves. Definitions only.
 use Rattle.std.specs.Prelude.{ℕ, ◌≡◌, ◌⊎◌, Bool, true, false, List, [], ◌∷◌, ◌++◌, Float, length, Some, None}
 use Rattle.float.specs.Arith.{◌⊕◌, finite}
 use Rattle.matrix.specs.Matrix.{admitted}

@@ -23,7 +23,7 @@ wants_of (accept derivative) = Some Waiting
 wants_of drop = None
 wants_of (first_step largest) = None
 
--- demand 2's definition of a call; one that is lent no output leaves none
+-- the definition of a call; one that is lent no output leaves none
 unfoldable pub perform : Call → Session → Outcome
 perform (begin step wish jacobian out) s = begin_call s step wish jacobian out
 perform (supply answer out) s = supply_call s answer out

@@ -158,7 +158,7 @@ unfoldable pub admits : Option Phase → Phase → Bool
 admits None phase = true
 admits (Some one) phase = eqb (phase_number one) (phase_number phase)
 
--- ---- the conditions of document 01's table, on the session: each holds where its number is not given
+-- ---- the conditions of the table of refusals, on the session: each holds where its number is not given
 
 -- a dimension is 1 to 16
 unfoldable pub size_ok : ℕ → Bool

@@ -30,7 +30,7 @@ pub const ANSWERS_AT: usize = JACOBIAN_AT + JACOBIAN;
 
 pub const FIGURES: usize = ANSWERS_AT + ROOM;
 
-// The layout before request 1: as today up to the tolerance, which had one place; then each array behind the one before it.
+// The older layout: as today up to the tolerance, which had one place; then each array behind the one before it.
 pub const OLD_STATE_AT: usize = ABSOLUTE_AT + 1;
 
 pub const OLD_FIGURES: usize = OLD_STATE_AT + 3 * PLACES + JACOBIAN + ROOM;

@@ -1,37 +1,40 @@
-// general.rs and document 01's session: the record, what a call refuses it for, the attempt as far as its answers go, the calls, and the
-// bare calls.
+// general.rs and its session: the record, what a call refuses it for, the calls, and the bare calls.
 #![tactic(auto)]
 
 ghost use Rattle.std.specs.Prelude.{◌≡◌, true, cond, ◌&&◌, List, ◌+◌, ◌*◌, ◌≤◌, ◌<◌, ltb, eqb, Float, length, Some, None, is_some, Ok, MatchOption};
 ghost use Rattle.std.specs.List.{list_all};
-ghost use Rattle.loops.specs.Loop.{every, stores, ◌!◌};
+ghost use Rattle.loops.specs.Loop.{stores, ◌!◌};
 ghost use Rattle.evaluation.specs.Evaluation.{all_finite};
 ghost use Rattle.evaluation.specs.Sizes.{places, answers_kept};
-ghost use Rattle.methods.specs.Step.{progress as reached};
+ghost use Rattle.methods.specs.Order.{order_number};
 ghost use Rattle.float.specs.Arith.{zero+};
 ghost use Rattle.session.specs.Tests.{refusal_number, tested};
-ghost use Rattle.session.specs.Session.{jacobian_room, clear, used_history, used_jacobian, step_clear, wanted, phase_of, admits};
-ghost use Rattle.session.specs.Session.{good1, history_ok, good2, good7, positive, tolerances_ok, step_ok, good5, session_tests, Sound, attempt_places};
-ghost use Rattle.session.specs.Session.{point_of, stepped, differencing, progress};
+ghost use Rattle.session.specs.Session.{jacobian_room, clear, used_history, used_jacobian, step_clear, wanted, admits};
+ghost use Rattle.session.specs.Session.{good1, history_ok, positive, tolerances_ok, step_ok, good5, session_tests, Sound};
+ghost use Rattle.session.specs.Session.{progress};
 ghost use Rattle.session.specs.Figures.{FIGURES, answers_at, session_of, head_of, figures_of};
-ghost use Rattle.session.specs.Calls.{outcome, told, tell, refuse_lent, opened, nothing, begun, rested, answered, moved, ready_of, shown, arrived, settled};
+ghost use Rattle.session.specs.Calls.{outcome, told, tell, refuse_lent, opened, nothing, begun, rested, answered, moved, shown, arrived, settled};
 ghost use Rattle.session.specs.Calls.{vector_tests, attempt_tests, largest_tests, begin_tests, supply_tests, accept_tests, first_step_tests};
 ghost use Rattle.session.specs.Calls.{open_call, begin_call, supply_call, accept_call, drop_call, first_step_call};
-ghost use Rattle.session.specs.Lent.{arrays_finite, unopened, column_of, column_asked, stepped_from, supplied_from, told_by, refused_by, resting_at, remains, fills};
+ghost use Rattle.session.specs.Lent.{unopened, told_by, refused_by, resting_at, remains, fills};
 ghost use Rattle.session.specs.Lent.{lent_call, lent_open, lent_ask, lent_fill};
 ghost use Rattle.session.specs.Old.{old_figures, old_session_of, copied, brought_over, lent_bring_over};
 ghost use Rattle.session.specs.Bare.{bare, exponential_tests, exponential_call, phi_tests, phi_call, norm_tests, norm_call};
 
+mod attempt;
 mod figures;
+mod lent;
 mod places;
 
+use attempt::Attempt;
 use evaluation::{PLACES, ROOM};
 use figures::{part, put, wipe};
 pub use figures::{
     ABSOLUTE_AT, ANSWERS_AT, DERIVATIVE_AT, FIGURES, Figures, JACOBIAN_AT, OLD_FIGURES,
     PREVIOUS_AT, RELATIVE_AT, STATE_AT, STEP_AT, TIME_AT,
 };
-use methods::{Dimension, ETD2, EXPRB32, EXPRB43, Point, Replay, Square, StepResult, Work};
+use lent::Lent;
+use methods::{Dimension, ETD2, Order, Square, StepResult};
 
 // The room of a Jacobian, row by row.
 pub const JACOBIAN: usize = figures::JACOBIAN;
@@ -98,6 +101,8 @@ impl From<Refusal> for u8 {
 
 // A run and its attempt. Entries past n and places not in use are +0.0; the Jacobian fills the first n * n places, row by row; answer k
 // begins at place 16 k.
+// Kept: the scheme is a number, and step, Jacobian, answers and previous have their places beside what says which are in use: whatever a host or an image holds there is handed in, and is
+// refused by 2 or by 1.
 #[derive(Clone, Copy)]
 pub struct Session {
     pub scheme: u8,
@@ -116,7 +121,8 @@ pub struct Session {
     pub answers: [f64; ROOM],
 }
 
-// A session of the layout before request 1: one absolute tolerance for all components.
+// A session of the older layout: one absolute tolerance for all components.
+// Kept: a layout that is over changes no more, and the session's fields do; a type parameter for the one that differs would stand in every signature of a Session.
 #[derive(Clone, Copy)]
 pub struct OldSession {
     pub scheme: u8,
@@ -146,6 +152,7 @@ pub struct Head {
 }
 
 // An answer or a refusal, and the head of the session whose figures the call left.
+// Kept: beside Told, with a head in a session's place; a type parameter for one field would stand in the signature of every call.
 #[derive(Clone, Copy)]
 pub struct Left {
     pub answer: Result<Answer, Refusal>,
@@ -170,19 +177,18 @@ pub enum Phase {
 // ---- what a session is refused for
 
 // How many answers an attempt asks for.
-fn wanted(scheme: u8, n: usize, attempt: Option<Wish>) -> usize
-    requires { n ≤ places }
+#[tactic(auto, unfolding(crate::specs::Session::wanted))]
+fn wanted(scheme: u8, n: Dimension, attempt: Option<Wish>) -> usize
     ensures { (result ≡ wanted scheme n attempt) × (result ≤ answers_kept) }
 {
-    let Some(wish) = attempt else {
-        return 0;
-    };
-    match wish {
-        Wish::Given => schemes::questions(scheme),
-        Wish::Difference => n + schemes::questions(scheme),
+    match attempt {
+        None => 0,
+        Some(Wish::Given) => schemes::questions(scheme),
+        Some(Wish::Difference) => n.get() + schemes::questions(scheme),
     }
 }
 
+#[tactic(auto, unfolding(crate::specs::Session::used_history))]
 fn used_history(h: History, n: usize) -> usize
     ensures { result ≡ used_history h n }
 {
@@ -192,19 +198,18 @@ fn used_history(h: History, n: usize) -> usize
     }
 }
 
-fn used_jacobian(a: Option<Wish>, n: usize) -> usize
-    requires { n ≤ places }
+#[tactic(auto, unfolding(crate::specs::Session::used_jacobian))]
+fn used_jacobian(a: Option<Wish>, n: Dimension) -> usize
     ensures { result ≡ used_jacobian a n }
 {
-    let Some(wish) = a else {
-        return 0;
-    };
-    match wish {
-        Wish::Given => n * n,
-        Wish::Difference => 0,
+    match a {
+        None => 0,
+        Some(Wish::Given) => n.get() * n.get(),
+        Some(Wish::Difference) => 0,
     }
 }
 
+#[tactic(auto, unfolding(crate::specs::Session::step_clear))]
 fn step_clear(a: Option<Wish>, step: f64) -> bool
     ensures { result ≡ step_clear a step }
 {
@@ -214,90 +219,13 @@ fn step_clear(a: Option<Wish>, step: f64) -> bool
     }
 }
 
-// 1, of the run; `calm` says that every place is finite but the tolerances, which may not be.
-fn run_places(
-    n: usize,
-    history: History,
-    absolute: &[f64; PLACES],
-    state: &[f64; PLACES],
-    derivative: &[f64; PLACES],
-    previous: &[f64; PLACES],
-    calm: bool,
-) -> bool
-    requires { («calm» ≡ true → all_finite state.now ≡ true) × («calm» ≡ true → all_finite derivative.now ≡ true) × («calm» ≡ true → all_finite previous.now ≡ true) }
-    ensures { result ≡ (clear n absolute.now && clear n state.now && clear n derivative.now && clear (used_history history n) previous.now) }
-{
-    places::clear(absolute, n, evaluation::all_finite(absolute))
-        & places::clear(state, n, calm)
-        & places::clear(derivative, n, calm)
-        & places::clear(previous, used_history(history, n), calm)
-}
-
-// 1, of the attempt.
-fn attempt_places(k: Head, figures: &Figures, calm: bool) -> bool
-    requires n_le_places { k.n ≤ places }
-    requires figures_value { «calm» ≡ true → arrays_finite (session_of k figures.now) ≡ true }
-    ensures { result ≡ attempt_places (session_of k figures.now) }
-{
-    let n = k.n;
-    step_clear(k.attempt, figures[STEP_AT])
-        & places::clear(
-            part::<JACOBIAN>(figures, JACOBIAN_AT),
-            used_jacobian(k.attempt, n),
-            calm,
-        )
-        & places::clear_answers(part(figures, ANSWERS_AT), k.count, n, calm)
-}
-
-fn good1(k: Head, figures: &Figures, calm: bool) -> bool
-    requires { «calm» ≡ true → arrays_finite (session_of k figures.now) ≡ true }
-    ensures { result ≡ good1 (session_of k figures.now) }
-{
-    let n = k.n;
-    let history = k.history;
-    if (1 <= n) & (n <= PLACES) {
-        return run_places(
-            n,
-            history,
-            part(figures, ABSOLUTE_AT),
-            part(figures, STATE_AT),
-            part(figures, DERIVATIVE_AT),
-            part(figures, PREVIOUS_AT),
-            calm,
-        ) & attempt_places(k, figures, calm);
-    }
-    false
-}
-
+#[tactic(auto, unfolding(crate::specs::Session::history_ok))]
 fn history_ok(h: History, scheme: u8) -> bool
     ensures { result ≡ history_ok h scheme }
 {
     match h {
         History::Missing => true,
         History::Held => scheme == ETD2,
-    }
-}
-
-fn good2(k: Head) -> bool
-    requires { k.n ≤ places }
-    ensures { (figures : List Float) → result ≡ good2 (session_of k figures) }
-{
-    (k.scheme < SCHEMES)
-        & history_ok(k.history, k.scheme)
-        & (k.count <= wanted(k.scheme, k.n, k.attempt))
-}
-
-fn phase_of(k: Head) -> Phase
-    requires { k.n ≤ places }
-    ensures { (figures : List Float) → result ≡ phase_of (session_of k figures) }
-{
-    let Some(_) = k.attempt else {
-        return Phase::Rest;
-    };
-    if k.count < wanted(k.scheme, k.n, k.attempt) {
-        Phase::Asking
-    } else {
-        Phase::Waiting
     }
 }
 
@@ -311,19 +239,14 @@ fn admits(wants: Option<Phase>, phase: Phase) -> bool
     }
 }
 
-fn good7(wants: Option<Phase>, k: Head) -> bool
-    requires { k.n ≤ places }
-    ensures { (figures : List Float) → result ≡ good7 wants (session_of k figures) }
-{
-    admits(wants, phase_of(k))
-}
-
+#[tactic(auto, unfolding(crate::specs::Session::positive))]
 fn positive(x: f64) -> bool
     ensures { result ≡ positive x }
 {
     float::finite(x) & (0.0 < x)
 }
 
+#[tactic(auto, unfolding(crate::specs::Session::step_ok))]
 fn step_ok(h: f64) -> bool
     ensures { result ≡ step_ok h }
 {
@@ -337,13 +260,13 @@ fn all_positive(x: &[f64]) -> bool
     x.iter().all(|&x| positive(x))
 }
 
-fn tolerances_ok(n: usize, relative: f64, absolute: &[f64; PLACES]) -> bool
-    requires { n ≤ places }
+fn tolerances_ok(n: Dimension, relative: f64, absolute: &[f64; PLACES]) -> bool
     ensures { result ≡ tolerances_ok n «relative» absolute.now }
 {
-    positive(relative) & all_positive(&absolute[..n])
+    positive(relative) & all_positive(&absolute[..n.get()])
 }
 
+#[tactic(auto, unfolding(crate::specs::Session::good5))]
 fn good5(a: Option<Wish>, step: f64) -> bool
     ensures { result ≡ good5 a step }
 {
@@ -353,28 +276,35 @@ fn good5(a: Option<Wish>, step: f64) -> bool
     }
 }
 
-// Whether every figure of the arrays is finite.
-fn arrays_finite(figures: &Figures) -> bool
-    ensures { (k : Head) → result ≡ arrays_finite (session_of k figures.now) }
+// 1: the dimension, and every place not in use.
+// Kept: head and figures apart, here and in the tests of the calls, which go by this one: they are a Lent only once the dimension is tested. Its bounds are tested by hand: a session's n is from 1,
+// a Dimension from 0.
+#[tactic(auto, unfolding(crate::specs::Session::good1, crate::specs::Figures::session_of, crate::specs::Session::size_ok))]
+fn good1(k: Head, figures: &Figures) -> bool
+    ensures { result ≡ good1 (session_of k figures.now) }
 {
-    evaluation::all_finite(&figures[STATE_AT..FIGURES])
+    if (1 <= k.n) & (k.n <= PLACES) {
+        let s = Lent { head: k, figures };
+        return s.run_places() & s.attempt_places();
+    }
+    false
 }
 
 // Why a session is refused, if it is.
 fn test_session(wants: Option<Phase>, k: Head, figures: &Figures) -> Result<(), Refusal>
     ensures { result ≡ tested (session_tests wants (session_of k figures.now)) }
 {
-    let calm = arrays_finite(figures);
-    if !good1(k, figures, calm) {
+    if !good1(k, figures) {
         return Err(Refusal::Places);
     }
-    if !good2(k) {
+    let s = Lent { head: k, figures };
+    if !s.good2() {
         return Err(Refusal::Scheme);
     }
-    let in_phase = good7(wants, k);
-    let tolerances = tolerances_ok(k.n, figures[RELATIVE_AT], part(figures, ABSOLUTE_AT));
+    let in_phase = s.good7(wants);
+    let tolerances = s.good4();
     let step = good5(k.attempt, figures[STEP_AT]);
-    let numbers = float::finite(figures[TIME_AT]) & calm;
+    let numbers = s.good3();
     if !in_phase {
         return Err(Refusal::Phase);
     }
@@ -390,85 +320,37 @@ fn test_session(wants: Option<Phase>, k: Head, figures: &Figures) -> Result<(), 
     Ok(())
 }
 
-// The same of a run that is to be opened: its attempt holds nothing.
-fn test_run(
-    k: Head,
-    time: f64,
-    relative: f64,
-    absolute: &[f64; PLACES],
-    state: &[f64; PLACES],
-    derivative: &[f64; PLACES],
-    previous: &[f64; PLACES],
-) -> Result<(), Refusal>
-    requires { (k.attempt ≡ None) × (k.count ≡ 0) }
-    ensures { result ≡ tested (session_tests None (opened (record {
-      scheme = k.scheme;
-      n = k.n;
-      time = «time»;
-      state = state.now;
-      derivative = derivative.now;
-      relative = «relative»;
-      absolute = absolute.now;
-      history = k.history;
-      previous = previous.now;
-    }))) }
-{
-    let n = k.n;
-    let history = k.history;
-    let calm = evaluation::all_finite(state)
-        & evaluation::all_finite(derivative)
-        & evaluation::all_finite(previous);
-    if !((1 <= n) & (n <= PLACES)) {
-        return Err(Refusal::Places);
-    }
-    if !run_places(n, history, absolute, state, derivative, previous, calm) {
-        return Err(Refusal::Places);
-    }
-    if !good2(k) {
-        return Err(Refusal::Scheme);
-    }
-    if !tolerances_ok(n, relative, absolute) {
-        return Err(Refusal::Tolerance);
-    }
-    if !(float::finite(time) & calm) {
-        return Err(Refusal::NotFinite);
-    }
-    Ok(())
-}
-
 // ---- what is refused of what is handed in
 
-fn test_vector(n: usize, x: &[f64; PLACES], lent: bool) -> Result<(), Refusal>
-    ensures { result ≡ tested (vector_tests n x.now «lent») }
+fn test_vector(n: usize, x: &[f64; PLACES]) -> Result<(), Refusal>
+    ensures { result ≡ tested (vector_tests n x.now true) }
 {
-    let calm = evaluation::all_finite(x);
-    if !(places::clear(x, n, calm) & lent) {
+    if !places::clear(x, n) {
         return Err(Refusal::Places);
     }
-    if !calm {
+    if !evaluation::all_finite(x) {
         return Err(Refusal::NotFinite);
     }
     Ok(())
 }
 
 fn test_attempt(
-    n: usize,
+    n: Dimension,
     step: f64,
     a: Option<Wish>,
     jacobian: &[f64; JACOBIAN],
     lent: usize,
 ) -> Result<(), Refusal>
-    requires { n ≤ places }
     ensures { result ≡ tested (attempt_tests n «step» a jacobian.now lent) }
 {
-    let calm = evaluation::all_finite(jacobian);
-    if !(places::clear(jacobian, used_jacobian(a, n), calm) & (lent == n)) {
+    let used = used_jacobian(a, n);
+    if !(places::clear(jacobian, used) & (lent == n.get())) {
         return Err(Refusal::Places);
     }
     if !step_ok(step) {
         return Err(Refusal::Step);
     }
-    if !calm {
+    if !places::finite(jacobian, used) {
         return Err(Refusal::NotFinite);
     }
     Ok(())
@@ -496,7 +378,7 @@ fn test_begin(
     ensures { result ≡ tested (begin_tests (session_of k figures.now) «step» a jacobian.now lent) }
 {
     test_session(Some(Phase::Rest), k, figures)?;
-    test_attempt(k.n, step, a, jacobian, lent)
+    test_attempt(Dimension::new(k.n), step, a, jacobian, lent)
 }
 
 fn test_supply(
@@ -508,14 +390,17 @@ fn test_supply(
     ensures { result ≡ tested (supply_tests (session_of k figures.now) answer.now lent) }
 {
     test_session(Some(Phase::Asking), k, figures)?;
-    test_vector(k.n, answer, lent == k.n)
+    if lent != k.n {
+        return Err(Refusal::Places);
+    }
+    test_vector(k.n, answer)
 }
 
 fn test_accept(k: Head, figures: &Figures, derivative: &[f64; PLACES]) -> Result<(), Refusal>
     ensures { result ≡ tested (accept_tests (session_of k figures.now) derivative.now) }
 {
     test_session(Some(Phase::Waiting), k, figures)?;
-    test_vector(k.n, derivative, true)
+    test_vector(k.n, derivative)
 }
 
 fn test_first_step(k: Head, figures: &Figures, largest: f64) -> Result<(), Refusal>
@@ -525,178 +410,10 @@ fn test_first_step(k: Head, figures: &Figures, largest: f64) -> Result<(), Refus
     test_largest(largest)
 }
 
-// ---- the attempt, as far as its answers go
-
-// What the schemes start from.
-fn point_of(k: Head, figures: &Figures) -> Point
-    requires { k.n ≤ places }
-    ensures { result ≡ point_of (session_of k figures.now) }
-{
-    let previous = match k.history {
-        History::Missing => None,
-        History::Held => Some(*part(figures, PREVIOUS_AT)),
-    };
-    Point {
-        n: Dimension::new(k.n),
-        time: figures[TIME_AT],
-        step: figures[STEP_AT],
-        state: *part(figures, STATE_AT),
-        f0: *part(figures, DERIVATIVE_AT),
-        previous,
-    }
-}
-
-// The step with a Jacobian, over the answers from the one at `first` on.
-fn stepped(k: Head, figures: &Figures, jacobian: &[f64], first: usize) -> Option<StepResult>
-    requires sound { Sound (session_of k figures.now) }
-    requires jacobian_len { length jacobian.now ≡ k.n * k.n }
-    requires first_bound { (first ≤ k.count) × (first ≤ places) }
-    ensures { reached result ≡ stepped (session_of k figures.now) jacobian.now first }
-{
-    let replay = Replay {
-        point: point_of(k, figures),
-        jacobian,
-        answers: part(figures, ANSWERS_AT),
-        first,
-        count: k.count - first,
-    };
-    schemes::perform_step(k.scheme, &replay)
-}
-
-// All columns are answered: the step with the Jacobian that they give.
-fn stepped_from(k: Head, figures: &Figures, a: &mut [f64]) -> Option<StepResult>
-    requires sound { Sound (session_of k figures.now) }
-    requires n_le_count { k.n ≤ k.count }
-    requires a_len { length a.old ≡ k.n * k.n }
-    ensures { reached result ≡ stepped_from (session_of k figures.now) }
-{
-    engine::jacobian_into(
-        part(figures, STATE_AT),
-        part(figures, DERIVATIVE_AT),
-        part(figures, ANSWERS_AT),
-        k.n,
-        a,
-    );
-    stepped(k, figures, a, k.n)
-}
-
-// Whether the first m columns were asked at finite states and are finite.
-fn columns_ok(k: Head, figures: &Figures, m: usize) -> bool
-    requires sound { Sound (session_of k figures.now) }
-    requires m_le_n { m ≤ k.n }
-    ensures { result ≡ every m (column_of (session_of k figures.now)) }
-{
-    engine::columns_ok(
-        part(figures, STATE_AT),
-        part(figures, DERIVATIVE_AT),
-        part(figures, ANSWERS_AT),
-        k.n,
-        m,
-    )
-}
-
-// The next column's question; it carries nothing else.
-fn column(k: Head, figures: &Figures) -> Option<StepResult>
-    requires { Sound (session_of k figures.now) }
-    ensures { reached result ≡ column_asked (session_of k figures.now) }
-{
-    let x = engine::perturbed(part(figures, STATE_AT), k.count, k.n);
-    if evaluation::all_finite(&x) {
-        return Some(StepResult::Question(x, figures[TIME_AT]));
-    }
-    None
-}
-
-fn differencing(k: Head, figures: &Figures) -> Option<StepResult>
-    requires { Sound (session_of k figures.now) }
-    ensures { reached result ≡ differencing (session_of k figures.now) }
-{
-    let n = k.n;
-    if k.count < n {
-        if columns_ok(k, figures, k.count) {
-            return column(k, figures);
-        }
-        return None;
-    }
-    if columns_ok(k, figures, n) {
-        let size = n * n;
-        let mut a = [0.0; JACOBIAN];
-        return stepped_from(k, figures, &mut a[..size]);
-    }
-    None
-}
-
-fn supplied(k: Head, figures: &Figures) -> Option<StepResult>
-    requires { Sound (session_of k figures.now) }
-    ensures { reached result ≡ supplied_from (session_of k figures.now) }
-{
-    let end = JACOBIAN_AT + k.n * k.n;
-    stepped(k, figures, &figures[JACOBIAN_AT..end], 0)
-}
-
-// Where the attempt stands; none where it is refused by 6.
-fn run_pass(k: Head, figures: &Figures) -> Option<StepResult>
-    requires { Sound (session_of k figures.now) }
-    ensures { reached result ≡ progress (session_of k figures.now) }
-{
-    let Some(wish) = k.attempt else {
-        return None;
-    };
-    match wish {
-        Wish::Given => supplied(k, figures),
-        Wish::Difference => differencing(k, figures),
-    }
-}
-
-// ---- what is told
-
-fn ready_of(
-    k: Head,
-    figures: &Figures,
-    candidate: &[f64; PLACES],
-    error: &[f64; PLACES],
-    work: Work,
-) -> Answer
-    requires { Sound (session_of k figures.now) }
-    ensures { result ≡ ready_of (session_of k figures.now) candidate.now error.now work }
-{
-    let n = k.n;
-    let rhs = wanted(k.scheme, n, k.attempt);
-    if (k.scheme == EXPRB32) | (k.scheme == EXPRB43) {
-        let norm = engine::scaled_error_norm(
-            n,
-            figures[RELATIVE_AT],
-            part(figures, ABSOLUTE_AT),
-            part(figures, STATE_AT),
-            candidate,
-            error,
-        );
-        return Answer::Ready(norm, rhs as u32, 1, work.products);
-    }
-    Answer::Ready(0.0, rhs as u32, 1, work.products)
-}
-
-// The question or the candidate fills the output, and the answer is told; none where the arithmetic is not admitted.
-fn show(k: Head, figures: &Figures, out: &mut [f64]) -> Option<Answer>
-    requires sound { Sound (session_of k figures.now) }
-    requires out_len { length out.old ≡ k.n }
-    ensures { (old : Session) → MatchOption result
-        (refuse_lent old out.new Refusal.Arithmetic ≡ shown old (session_of k figures.now) out.old (progress (session_of k figures.now)))
-        (λ answer. outcome (tell answer (session_of k figures.now)) out.new ≡ shown old (session_of k figures.now) out.old (progress (session_of k figures.now))) }
-{
-    match run_pass(k, figures)? {
-        StepResult::Question(x, time) => {
-            places::copy_out(x, out);
-            Some(Answer::Ask(time))
-        }
-        StepResult::Done(candidate, error, _, work) => {
-            places::copy_out(candidate, out);
-            Some(ready_of(k, figures, &candidate, &error, work))
-        }
-    }
-}
-
 // ---- what of a session changes
+
+// Kept: head and figures apart, and what a session passed in a `requires`: a head is handed on by value while the figures change in place, and the tests are of the figures before the change, so
+// that no struct over the figures can hold them.
 
 // An attempt that has no answer yet, of a session at rest.
 // Kept: slices here, in `put_answer` and in `rest`, whose proofs need that each entry is a double: a slice's type tells it, that of a reference to an array does not.
@@ -713,7 +430,7 @@ fn put_attempt(
     ensures begun { session_of result figures.new ≡ begun (session_of k figures.old) «step» attempt jacobian.now }
     ensures back { rested (session_of result figures.new) ≡ session_of k figures.old }
 {
-    let used = used_jacobian(attempt, k.n);
+    let used = used_jacobian(attempt, Dimension::new(k.n));
     figures[STEP_AT] = step;
     put(&jacobian[..used], figures, JACOBIAN_AT);
     Head { attempt, ..k }
@@ -734,7 +451,7 @@ fn put_answer(k: Head, figures: &mut [f64], answer: &[f64; PLACES]) -> Head
     }
 }
 
-// The places of the k-th answer hold nothing again.
+// The places of the answer that was put last hold nothing again.
 fn take_answer_back(k: Head, figures: &mut Figures)
     requires { k.count < answers_kept }
     ensures { figures.new ≡ stores (λ _ _. zero+) (answers_at + places * k.count) places figures.old }
@@ -749,7 +466,7 @@ fn rest(k: Head, figures: &mut [f64]) -> Head
     requires figures_value { tested (session_tests None (session_of k figures.old)) ≡ Ok tt }
     ensures { session_of result figures.new ≡ rested (session_of k figures.old) }
 {
-    let used = used_jacobian(k.attempt, k.n);
+    let used = used_jacobian(k.attempt, Dimension::new(k.n));
     figures[STEP_AT] = 0.0;
     wipe(figures, JACOBIAN_AT, used);
     wipe(figures, ANSWERS_AT, PLACES * k.count);
@@ -787,6 +504,7 @@ fn move_on(
 }
 
 // A run with no attempt, in all of the figures.
+// Kept: what a run begins with is handed on one by one from the two ways to open to here, as the C interface hands it in; a struct of it would be made by each and taken apart here.
 fn put_run(
     time: f64,
     relative: f64,
@@ -839,7 +557,8 @@ fn unopened(scheme: u8, n: usize, history: History) -> Head
     }
 }
 
-// Those of what a refused open leaves.
+// The head that a refused open leaves.
+#[tactic(auto, unfolding(crate::specs::Session::fresh, crate::specs::Session::idle, crate::specs::Calls::nothing, crate::specs::Calls::opened))]
 fn no_head() -> Head
     ensures { result ≡ head_of nothing }
 {
@@ -872,6 +591,7 @@ fn resting(k: Head) -> Left
     }
 }
 
+#[tactic(auto, unfolding(crate::specs::Calls::open_call, crate::specs::Tests::unless))]
 fn open_over(
     k: Head,
     time: f64,
@@ -895,15 +615,16 @@ fn open_over(
       previous = previous.now;
     }) }
 {
-    if let Err(refusal) = test_run(k, time, relative, absolute, state, derivative, previous) {
-        return refused(put_nothing(figures), refusal);
-    }
     put_run(
         time, relative, absolute, state, derivative, previous, figures,
     );
+    if let Err(refusal) = test_session(None, k, figures) {
+        return refused(put_nothing(figures), refusal);
+    }
     resting(k)
 }
 
+// Kept: step, wish and Jacobian are handed on from the two ways to begin to here; a struct of them would be made by each and taken apart here.
 fn begin_over(
     k: Head,
     figures: &mut Figures,
@@ -920,7 +641,11 @@ fn begin_over(
         return refused(k, refusal);
     }
     let next = put_attempt(k, figures, step, attempt, jacobian);
-    let Some(answer) = show(next, figures, out) else {
+    let tried = Attempt {
+        head: next,
+        figures,
+    };
+    let Some(answer) = tried.show(out) else {
         return refused(rest(next, figures), Refusal::Arithmetic);
     };
     Left {
@@ -936,7 +661,11 @@ fn supply_over(k: Head, figures: &mut Figures, answer: &[f64; PLACES], out: &mut
         return refused(k, refusal);
     }
     let next = put_answer(k, figures, answer);
-    let Some(answer) = show(next, figures, out) else {
+    let tried = Attempt {
+        head: next,
+        figures,
+    };
+    let Some(answer) = tried.show(out) else {
         take_answer_back(k, figures);
         return refused(k, Refusal::Arithmetic);
     };
@@ -968,7 +697,8 @@ fn settle(k: Head, figures: &mut Figures, derivative: &[f64; PLACES]) -> Left
     requires { tested (session_tests None (session_of k figures.old)) ≡ Ok tt }
     ensures { told_by result figures.new ≡ settled (session_of k figures.old) derivative.now (progress (session_of k figures.old)) }
 {
-    let Some(step) = run_pass(k, figures) else {
+    let tried = Attempt { head: k, figures };
+    let Some(step) = tried.run_pass() else {
         return refused(k, Refusal::Arithmetic);
     };
     match step {
@@ -982,13 +712,13 @@ fn settle(k: Head, figures: &mut Figures, derivative: &[f64; PLACES]) -> Left
 fn accept_over(k: Head, figures: &mut Figures, derivative: &[f64; PLACES]) -> Left
     ensures { told_by result figures.new ≡ accept_call (session_of k figures.old) derivative.now }
 {
-    let kept = k;
     if let Err(refusal) = test_accept(k, figures, derivative) {
-        return refused(kept, refusal);
+        return refused(k, refusal);
     }
     settle(k, figures, derivative)
 }
 
+#[tactic(auto, unfolding(crate::specs::Calls::drop_call, crate::specs::Tests::unless))]
 fn drop_over(k: Head, figures: &mut Figures) -> Left
     ensures { told_by result figures.new ≡ drop_call (session_of k figures.old) }
 {
@@ -1003,7 +733,7 @@ fn first_step_over(k: Head, figures: &Figures, largest: f64) -> Result<Answer, R
 {
     test_first_step(k, figures, largest)?;
     Ok(Answer::FirstStep(engine::estimate_initial_step(
-        k.n,
+        Dimension::new(k.n),
         figures[RELATIVE_AT],
         part(figures, ABSOLUTE_AT),
         part(figures, STATE_AT),
@@ -1137,13 +867,11 @@ impl Session {
     pub fn head(self) -> Head
         ensures { result ≡ head_of self }
     {
-        let history = self.history;
-        let attempt = self.attempt;
         Head {
             scheme: self.scheme,
             n: self.n,
-            history,
-            attempt,
+            history: self.history,
+            attempt: self.attempt,
             count: self.count,
         }
     }
@@ -1156,32 +884,25 @@ impl Session {
         figures
     }
 
+    #[tactic(auto, unfolding(crate::specs::Figures::session_of))]
     pub fn of(k: Head, figures: Figures) -> Session
         ensures { result ≡ session_of k figures }
     {
-        let history = k.history;
-        let attempt = k.attempt;
-        let absolute = *part(&figures, ABSOLUTE_AT);
-        let state = *part(&figures, STATE_AT);
-        let derivative = *part(&figures, DERIVATIVE_AT);
-        let previous = *part(&figures, PREVIOUS_AT);
-        let jacobian = *part(&figures, JACOBIAN_AT);
-        let answers = *part(&figures, ANSWERS_AT);
         Session {
             scheme: k.scheme,
             n: k.n,
             time: figures[TIME_AT],
-            state,
-            derivative,
+            state: *part(&figures, STATE_AT),
+            derivative: *part(&figures, DERIVATIVE_AT),
             relative: figures[RELATIVE_AT],
-            absolute,
-            history,
-            previous,
-            attempt,
+            absolute: *part(&figures, ABSOLUTE_AT),
+            history: k.history,
+            previous: *part(&figures, PREVIOUS_AT),
+            attempt: k.attempt,
             step: figures[STEP_AT],
-            jacobian,
+            jacobian: *part(&figures, JACOBIAN_AT),
             count: k.count,
-            answers,
+            answers: *part(&figures, ANSWERS_AT),
         }
     }
 }
@@ -1190,16 +911,15 @@ impl Session {
 fn given_back(left: Left, figures: Figures) -> Told
     ensures { result ≡ told_by left figures }
 {
-    let answer = left.answer;
-    let k = left.head;
     Told {
-        answer,
-        session: Session::of(k, figures),
+        answer: left.answer,
+        session: Session::of(left.head, figures),
     }
 }
 
 // ---- the calls
 
+// Kept: by value, beside those over lent figures: two ways in to each body, with outcomes of two types.
 impl Session {
     // Opens a run: it rests.
     pub fn open(
@@ -1241,6 +961,7 @@ impl Session {
     }
 
     // Begins an attempt: the first question, or the candidate where there is none, fills `out`.
+    #[tactic(auto, unfolding(crate::specs::Lent::told_by, crate::specs::Figures::session_of, crate::specs::Figures::head_of))]
     pub fn begin(self, step: f64, wish: Wish, jacobian: [f64; JACOBIAN], out: &mut [f64]) -> Told
         ensures { outcome result out.new ≡ begin_call self step wish jacobian out.old }
     {
@@ -1250,6 +971,7 @@ impl Session {
     }
 
     // Supplies the derivative that was asked for: the next question, or the candidate, fills `out`.
+    #[tactic(auto, unfolding(crate::specs::Lent::told_by, crate::specs::Figures::session_of, crate::specs::Figures::head_of))]
     pub fn supply(self, answer: [f64; PLACES], out: &mut [f64]) -> Told
         ensures { outcome result out.new ≡ supply_call self answer out.old }
     {
@@ -1259,6 +981,7 @@ impl Session {
     }
 
     // Accepts the candidate, with the derivative there.
+    #[tactic(auto, unfolding(crate::specs::Lent::told_by, crate::specs::Figures::session_of, crate::specs::Figures::head_of))]
     pub fn accept(self, derivative: [f64; PLACES]) -> Told
         ensures { result ≡ accept_call self derivative }
     {
@@ -1268,6 +991,7 @@ impl Session {
     }
 
     // Drops the attempt, if there is one.
+    #[tactic(auto, unfolding(crate::specs::Lent::told_by, crate::specs::Figures::session_of, crate::specs::Figures::head_of))]
     pub fn drop(self) -> Told
         ensures { result ≡ drop_call self }
     {
@@ -1307,15 +1031,15 @@ fn copied(n: usize, one: f64) -> [f64; PLACES]
 
 impl OldSession {
     // The session that it is today: its tolerance is copied n times, and nothing is judged.
+    // Kept: an array that goes into a literal from another value's field is named first; the borrow checker covers no other form.
+    #[tactic(auto, unfolding(crate::specs::Old::brought_over))]
     pub fn bring_over(self) -> Session
         ensures { result ≡ brought_over self }
     {
         let absolute = copied(self.n, self.absolute);
         let state = self.state;
         let derivative = self.derivative;
-        let history = self.history;
         let previous = self.previous;
-        let attempt = self.attempt;
         let jacobian = self.jacobian;
         let answers = self.answers;
         Session {
@@ -1326,9 +1050,9 @@ impl OldSession {
             derivative,
             relative: self.relative,
             absolute,
-            history,
+            history: self.history,
             previous,
-            attempt,
+            attempt: self.attempt,
             step: self.step,
             jacobian,
             count: self.count,
@@ -1362,6 +1086,7 @@ impl Head {
 
 // ---- the bare calls
 
+#[tactic(auto, unfolding(crate::specs::Bare::exponential_tests, crate::specs::Tests::tested))]
 fn test_exponential(size: usize, m: &[f64], lent: usize) -> Result<(), Refusal>
     ensures { result ≡ tested (exponential_tests size m.now lent) }
 {
@@ -1390,17 +1115,18 @@ pub fn exponential(size: usize, m: &[f64], out: &mut [f64]) -> Result<Answer, Re
     Ok(Answer::Filled(reach.terms, reach.squarings))
 }
 
+#[tactic(auto, unfolding(crate::specs::Bare::phi_tests, crate::specs::Session::size_ok, crate::specs::Tests::tested))]
 fn test_phi(
     n: usize,
-    order: usize,
+    order: Order,
     scale_a: f64,
     a: &[f64],
     input: &[f64],
     lent: usize,
 ) -> Result<(), Refusal>
-    ensures { result ≡ tested (phi_tests n order scale_a a.now input.now lent) }
+    ensures { result ≡ tested (phi_tests n (order_number order) scale_a a.now input.now lent) }
 {
-    if (1 <= n) & (n <= PLACES) & (1 <= order) & (order <= 4) {
+    if (1 <= n) & (n <= PLACES) {
         if (a.len() == n * n) & (input.len() == n) & (lent == n) {
             if float::finite(scale_a) & evaluation::all_finite(a) & evaluation::all_finite(input) {
                 return Ok(());
@@ -1422,6 +1148,9 @@ pub fn phi_action(
 ) -> Result<Answer, Refusal>
     ensures { bare result out.new ≡ phi_call n order scale_a a.now input.now out.old }
 {
+    let Ok(order) = Order::try_from(order) else {
+        return Err(Refusal::Places);
+    };
     test_phi(n, order, scale_a, a, input, out.len())?;
     let square = Square {
         n: Dimension::new(n),
@@ -1444,25 +1173,25 @@ fn test_norm(
 ) -> Result<(), Refusal>
     ensures { result ≡ tested (norm_tests n relative absolute error state candidate) }
 {
-    let calm = evaluation::all_finite(&error)
-        & evaluation::all_finite(&state)
-        & evaluation::all_finite(&candidate);
     if !((1 <= n)
         & (n <= PLACES)
-        & places::clear(&absolute, n, evaluation::all_finite(&absolute))
-        & places::clear(&error, n, calm)
-        & places::clear(&state, n, calm)
-        & places::clear(&candidate, n, calm))
+        & places::clear(&absolute, n)
+        & places::clear(&error, n)
+        & places::clear(&state, n)
+        & places::clear(&candidate, n))
     {
         return Err(Refusal::Places);
     }
-    if tolerances_ok(n, relative, &absolute) {
-        if calm {
-            return Ok(());
-        }
+    if !tolerances_ok(Dimension::new(n), relative, &absolute) {
+        return Err(Refusal::Tolerance);
+    }
+    if !(evaluation::all_finite(&error)
+        & evaluation::all_finite(&state)
+        & evaluation::all_finite(&candidate))
+    {
         return Err(Refusal::NotFinite);
     }
-    Err(Refusal::Tolerance)
+    Ok(())
 }
 
 // The error norm of n entries.
@@ -1477,5 +1206,6 @@ pub fn error_norm(
     ensures { result ≡ norm_call n relative absolute error state candidate }
 {
     test_norm(n, relative, absolute, error, state, candidate)?;
+    let n = Dimension::new(n);
     Ok(Answer::Norm(engine::scaled_error_norm(n, relative, &absolute, &state, &candidate, &error)))
 }

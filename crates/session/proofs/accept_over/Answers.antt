@@ -1,5 +1,5 @@
 -- `session::accept_over` meets its contract. Assumes nothing.
-use mathlib.Core.Path.{sym, ◌∙◌}
+use Rattle.std.proofs.Common.{sym, ◌∙◌}
 use Rattle.std.specs.Prelude.{Some}
 use Rattle.session.specs.declared.Phase.TheVariants.{Waiting}
 use Rattle.session.specs.Tests.{unless}

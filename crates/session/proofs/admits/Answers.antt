@@ -1,6 +1,5 @@
 -- `session::admits` meets its contract. Assumes nothing.
-use mathlib.Core.Path.{◌≡◌, refl, ◌∙◌}
-use lib.Dec.{eqb}
+use Rattle.std.proofs.Common.{◌≡◌, refl, ◌∙◌, eqb}
 use denote.Enum.Bare.{sameb}
 use Rattle.session.specs.contracts.Phase.{the_type}
 use Rattle.session.specs.declared.Phase.{Phase}

@@ -1,6 +1,5 @@
 -- `session::begin_over` meets its contract. Assumes nothing.
-use native.Mathlib.Omega.{arith}
-use mathlib.Core.Path.{refl, sym, ap, ◌∙◌}
+use Rattle.std.proofs.Common.{arith, refl, sym, ap, ◌∙◌}
 use Rattle.session.specs.declared.Session.{Session}
 use Rattle.session.specs.Figures.{session_of}
 use Rattle.session.specs.Calls.{begun}
@@ -20,15 +19,15 @@ put_attempt-next-requires c =
           c.test_begin.ensures c.in_default.is);
     }
 
+pub invariant_of-tried : goal.invariant_of-tried
+invariant_of-tried c = record { sound = begin_sound _ _ _ _ c.args.out.now c.test_begin.ensures c.in_default.is _ c.put_attempt-next.ensures.begun }
+
 pub show-requires : goal.show-requires
 show-requires c =
-    record {
-      sound = begin_sound _ _ _ _ c.args.out.now c.test_begin.ensures c.in_default.is _ c.put_attempt-next.ensures.begun;
-      out_len = (unfold session_of begun in
-          (begin_room (session_of c.args.k c.args.figures.now) c.args.step c.args.wish c.args.jacobian.now c.args.out.now
-          c.test_begin.ensures c.in_default.is
-          ∙ sym (ap (λ (z : Session). z.n) c.put_attempt-next.ensures.begun)));
-    }
+    unfold session_of begun in
+    (begin_room (session_of c.args.k c.args.figures.now) c.args.step c.args.wish c.args.jacobian.now c.args.out.now
+    c.test_begin.ensures c.in_default.is
+    ∙ sym (ap (λ (z : Session). z.n) c.put_attempt-next.ensures.begun))
 
 pub rest-requires : goal.rest-requires
 rest-requires c =

@@ -1,7 +1,5 @@
 -- `session::bring_over_figures` meets its contract. Assumes nothing.
-use native.Mathlib.Omega.{arith}
-use mathlib.Core.Path.{sym}
-use lib.Seq.{length-take-le}
+use Rattle.std.proofs.Common.{arith, sym, length-take-le}
 use Rattle.session.specs.Figures.{absolute_at}
 use Rattle.session.proofs.Old.{brought_told}
 use Rattle.session.proofs.bring_over_figures.Goals as goal

@@ -1,7 +1,5 @@
 -- `session::exponential` meets its contract. Assumes nothing.
-use native.Mathlib.Omega.{arith}
-use mathlib.Core.Path.{sym, ◌∙◌}
-use lib.Seq.{length-take-le}
+use Rattle.std.proofs.Common.{arith, sym, ◌∙◌, length-take-le}
 use Rattle.session.specs.Tests.{unless}
 use Rattle.session.specs.Bare.{exponential_call}
 use Rattle.session.proofs.Tests.{passed_on}

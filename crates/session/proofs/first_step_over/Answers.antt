@@ -1,5 +1,5 @@
 -- `session::first_step_over` meets its contract. Assumes nothing.
-use mathlib.Core.Path.{sym, ◌∙◌}
+use Rattle.std.proofs.Common.{sym, ◌∙◌}
 use Rattle.std.specs.Prelude.{None}
 use Rattle.session.specs.Tests.{unless}
 use Rattle.session.specs.Figures.{session_of}
@@ -12,10 +12,10 @@ pub returns-in_err-test_first_step : goal.returns-in_err-test_first_step
 unfolding first_step_call unless
 returns-in_err-test_first_step c = rw (← c.test_first_step.ensures, c.in_err-test_first_step.was, passed_on _ _ c.from_residual.ensures.1)
 
-pub estimate_initial_step-requires : goal.estimate_initial_step-requires
+pub new-requires : goal.new-requires
 unfolding session_of
-estimate_initial_step-requires c = (passed_sound None _ (first_step_passes _ _ (sym c.test_first_step.ensures ∙ c.in_ok-test_first_step.was))).small
+new-requires c = (passed_sound None _ (first_step_passes _ _ (sym c.test_first_step.ensures ∙ c.in_ok-test_first_step.was))).small
 
 pub returns : goal.returns
 unfolding first_step_call unless session_of
-returns c = rw (← c.test_first_step.ensures, c.in_ok-test_first_step.was, c.estimate_initial_step.ensures, c.part.ensures, c.part-2.ensures, c.part-3.ensures)
+returns c = rw (← c.test_first_step.ensures, c.in_ok-test_first_step.was, c.estimate_initial_step.ensures, c.new.ensures, c.part.ensures, c.part-2.ensures, c.part-3.ensures)

@@ -1,6 +1,5 @@
 -- `session::move_on` meets its contract. Assumes nothing.
-use native.Mathlib.Omega.{arith}
-use borrow.Author.Tests.{ne_eqb, eq-eqb}
+use Rattle.std.proofs.Common.{arith, ne_eqb, eq-eqb}
 use Rattle.session.specs.Figures.{session_of}
 use Rattle.session.proofs.Writes.{move_is, move_etd2}
 use Rattle.session.proofs.move_on.Goals as goal

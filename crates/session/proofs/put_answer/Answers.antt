@@ -3,9 +3,7 @@ use Rattle.std.specs.Prelude.{Some}
 use Rattle.session.proofs.Laws.{few_answers}
 use Rattle.session.specs.declared.Phase.TheVariants.{Asking}
 use Rattle.float.specs.Arith.{zero+}
-use native.Mathlib.Omega.{arith}
-use Prim.Native.Nat.{ℕ, ◌+◌, ◌*◌}
-use mathlib.Core.Path.{ap, ◌∙◌}
+use Rattle.std.proofs.Common.{arith, ℕ, ◌+◌, ◌*◌, ap, ◌∙◌}
 use Rattle.loops.specs.Loop.{stores, ◌!◌}
 use Rattle.evaluation.specs.Sizes.{places}
 use Rattle.session.specs.Figures.{answers_at, session_of}

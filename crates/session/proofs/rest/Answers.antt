@@ -1,15 +1,14 @@
 -- `session::rest` meets its contract. Assumes nothing.
 use Rattle.std.specs.Prelude.{None}
 use Rattle.float.specs.Arith.{zero+}
-use native.Mathlib.Omega.{arith}
-use lib.ListN.{length-set}
+use Rattle.std.proofs.Common.{arith, length-set}
 use Rattle.session.specs.Figures.{session_of}
 use Rattle.session.proofs.Laws.{passed_sound}
 use Rattle.session.proofs.Writes.{typed_passed, rest_is, few, short}
 use Rattle.session.proofs.rest.Goals as goal
 
-pub used_jacobian-used-requires : goal.used_jacobian-used-requires
-used_jacobian-used-requires c = unfold session_of in (passed_sound None _ c.requires.figures_value).small
+pub new-requires : goal.new-requires
+new-requires c = unfold session_of in (passed_sound None _ c.requires.figures_value).small
 
 pub bounds-figures-1 : goal.bounds-figures-1
 bounds-figures-1 c = omega (arith, c.requires.figures_len)
@@ -19,7 +18,7 @@ wipe-requires c =
     simp length-set
     (omega (
       arith,
-      c.used_jacobian-used.ensures,
+      (rw c.new.ensures at c.used_jacobian-used.ensures),
       c.requires.figures_len,
       few _ _ c.requires.figures_len (typed_passed _ _ None c.requires.figures_value
           (record { places = c.requires.figures_len; fit = c.slice_known-1.given })) c.requires.figures_value,
@@ -51,4 +50,4 @@ pub returns : goal.returns
 returns c =
     rest_is c.args.k c.args.figures.now c.requires.figures_len (typed_passed _ _ None c.requires.figures_value
     (record { places = c.requires.figures_len; fit = c.slice_known-1.given })) c.requires.figures_value
-    c.used_jacobian-used.ensures c.wipe.ensures c.wipe-2.ensures
+    (rw c.new.ensures at c.used_jacobian-used.ensures) c.wipe.ensures c.wipe-2.ensures

@@ -1,12 +1,12 @@
 -- `session::settle` meets its contract. Assumes nothing.
-use mathlib.Core.Path.{ap}
+use Rattle.std.proofs.Common.{ap}
 use Rattle.std.specs.Prelude.{None}
 use Rattle.session.specs.Lent.{told_by}
 use Rattle.session.proofs.Laws.{passed_sound, settle_none, settle_question, settle_done}
 use Rattle.session.proofs.settle.Goals as goal
 
-pub run_pass-requires : goal.run_pass-requires
-run_pass-requires c = passed_sound None _ c.requires
+pub invariant_of-tried : goal.invariant_of-tried
+invariant_of-tried c = record { sound = passed_sound None _ c.requires }
 
 pub returns-in_default : goal.returns-in_default
 returns-in_default c = settle_none _ _ _ _ c.in_default.ensures (ap (λ l. told_by l c.args.figures.now) c.refused.ensures)

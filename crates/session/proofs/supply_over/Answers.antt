@@ -1,9 +1,9 @@
 -- `session::supply_over` meets its contract. Assumes nothing.
-use mathlib.Core.Path.{refl, sym, ap, ◌∙◌}
+use Rattle.std.proofs.Common.{refl, sym, ap, ◌∙◌}
 use Rattle.session.specs.declared.Session.{Session}
 use Rattle.session.specs.Calls.{answered}
 use Rattle.session.specs.Figures.{session_of}
-use Rattle.session.proofs.Bodies.{supply_refused, supply_asks, supply_early, supply_room, supply_sound, supply_shown, supply_stopped}
+use Rattle.session.proofs.Bodies.{supply_refused, supply_asks, supply_early, supply_room, supply_sound, supply_shown, supply_six}
 use Rattle.session.proofs.supply_over.Goals as goal
 
 pub put_answer-next-requires : goal.put_answer-next-requires
@@ -13,14 +13,14 @@ put_answer-next-requires c =
       figures_value = supply_asks _ _ c.args.out.now c.test_supply.ensures c.in_default.is;
     }
 
+pub invariant_of-tried : goal.invariant_of-tried
+invariant_of-tried c = record { sound = supply_sound _ _ c.args.out.now c.test_supply.ensures c.in_default.is _ c.put_answer-next.ensures.answered }
+
 pub show-requires : goal.show-requires
 show-requires c =
-    record {
-      sound = supply_sound _ _ c.args.out.now c.test_supply.ensures c.in_default.is _ c.put_answer-next.ensures.answered;
-      out_len = (unfold session_of answered in
-          (supply_room (session_of c.args.k c.args.figures.now) c.args.answer.now c.args.out.now c.test_supply.ensures c.in_default.is
-          ∙ sym (ap (λ (z : Session). z.n) c.put_answer-next.ensures.answered)));
-    }
+    unfold session_of answered in
+    (supply_room (session_of c.args.k c.args.figures.now) c.args.answer.now c.args.out.now c.test_supply.ensures c.in_default.is
+    ∙ sym (ap (λ (z : Session). z.n) c.put_answer-next.ensures.answered))
 
 pub take_answer_back-requires : goal.take_answer_back-requires
 take_answer_back-requires c =
@@ -34,5 +34,5 @@ returns c = supply_shown _ _ c.args.out.now c.test_supply.ensures c.in_default.i
 
 pub returns-in_default-show : goal.returns-in_default-show
 returns-in_default-show c =
-    supply_stopped _ _ c.args.out.now c.test_supply.ensures c.in_default.is _ c.put_answer-next.ensures.answered
+    supply_six _ _ c.args.out.now c.test_supply.ensures c.in_default.is _ c.put_answer-next.ensures.answered
     (c.in_default-show.ensures _) _ _ c.refused-in_default-show.ensures (ap (session_of c.args.k) (c.take_answer_back.ensures ∙ c.put_answer-next.ensures.back))

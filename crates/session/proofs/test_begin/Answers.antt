@@ -1,16 +1,16 @@
 -- `session::test_begin` meets its contract. Assumes nothing.
 use Rattle.std.specs.Prelude.{Some}
 use Rattle.session.proofs.Tests.{passed_on}
-use mathlib.Core.Path.{sym, ◌∙◌}
+use Rattle.std.proofs.Common.{sym, ◌∙◌}
 use Rattle.session.specs.declared.Phase.TheVariants.{Rest}
 use Rattle.session.specs.Calls.{begin_tests}
 use Rattle.session.specs.Figures.{session_of}
 use Rattle.session.proofs.Laws.{passed_sound, session_then, session_fails}
 use Rattle.session.proofs.test_begin.Goals as goal
 
-pub test_attempt-requires : goal.test_attempt-requires
+pub new-requires : goal.new-requires
 unfolding session_of
-test_attempt-requires c = (passed_sound (Some Rest) _ (sym c.test_session.ensures ∙ c.in_ok-test_session.was)).small
+new-requires c = (passed_sound (Some Rest) _ (sym c.test_session.ensures ∙ c.in_ok-test_session.was)).small
 
 pub returns-in_err-test_session : goal.returns-in_err-test_session
 unfolding begin_tests session_of
@@ -18,4 +18,4 @@ returns-in_err-test_session c = passed_on _ _ c.from_residual.ensures.1 ∙ sess
 
 pub returns : goal.returns
 unfolding begin_tests session_of
-returns c = session_then _ _ _ c.test_session.ensures c.in_ok-test_session.was c.test_attempt.ensures
+returns c = session_then _ _ _ c.test_session.ensures c.in_ok-test_session.was (rw c.new.ensures at c.test_attempt.ensures)

@@ -1,5 +1,5 @@
 -- `session::test_first_step` meets its contract. Assumes nothing.
-use mathlib.Core.Path.{◌∙◌}
+use Rattle.std.proofs.Common.{◌∙◌}
 use Rattle.session.proofs.Tests.{passed_on}
 use Rattle.session.specs.Calls.{first_step_tests}
 use Rattle.session.specs.Figures.{session_of}

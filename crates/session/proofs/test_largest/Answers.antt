@@ -1,7 +1,6 @@
 -- `session::test_largest` meets its contract. Assumes nothing.
 use Rattle.session.specs.declared.Refusal.TheVariants as Why
-use Rattle.std.proofs.Common.{ap, not}
-use mathlib.Core.Path.{refl}
+use Rattle.std.proofs.Common.{ap, not, refl}
 use Rattle.session.specs.Calls.{largest_tests}
 use Rattle.session.proofs.Tests.{stops, holds_on, all_hold}
 use Rattle.session.proofs.test_largest.Goals as goal

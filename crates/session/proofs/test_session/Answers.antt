@@ -1,80 +1,67 @@
 -- `session::test_session` meets its contract. Assumes nothing.
 use Rattle.session.specs.declared.Refusal.TheVariants as Why
-use Rattle.std.proofs.Common.{◌≡◌, true, not, ap}
-use mathlib.Core.Path.{sym, ◌∙◌}
+use Rattle.std.proofs.Common.{◌≡◌, true, not, ap, sym, ◌∙◌}
 use borrow.Author.Tests.{not-false}
 use Rattle.session.specs.Session.{session_tests}
 use Rattle.session.specs.Figures.{session_of}
 use Rattle.session.proofs.Tests.{stops, holds_on, all_hold}
 use Rattle.session.proofs.Laws.{good1_size}
-use Rattle.session.proofs.Parts.{time_then, run_tolerances, attempt_step}
+use Rattle.session.proofs.Parts.{attempt_step}
 use Rattle.session.proofs.test_session.Goals as goal
-
-pub good1-requires : goal.good1-requires
-unfolding session_tests
-good1-requires c = λ e. sym (c.arrays_finite-calm.ensures _) ∙ e
 
 pub returns-then-not-good1 : goal.returns-then-not-good1
 unfolding session_tests
 returns-then-not-good1 c = stops Why.Places _ c.good1.ensures (ap not c.if-not-good1.true)
 
-pub good2-requires : goal.good2-requires
+pub invariant_of-s : goal.invariant_of-s
 unfolding session_tests
-good2-requires c = unfold session_of in (good1_size _ (sym c.good1.ensures ∙ not-false c.good1.result (ap not c.if-not-good1.false))).1
+invariant_of-s c = record { small = unfold session_of in (good1_size _ (sym c.good1.ensures ∙ not-false c.good1.result (ap not c.if-not-good1.false))).1 }
 
 pub returns-then-not-good2 : goal.returns-then-not-good2
 unfolding session_tests
-returns-then-not-good2 c = holds_on Why.Places _ c.good1.ensures (ap not c.if-not-good1.false) (stops Why.Scheme _ (c.good2.ensures _) (ap not c.if-not-good2.true))
-
-pub good7-in_phase-requires : goal.good7-in_phase-requires
-unfolding session_tests
-good7-in_phase-requires c = unfold session_of in (good1_size _ (sym c.good1.ensures ∙ not-false c.good1.result (ap not c.if-not-good1.false))).1
-
-pub tolerances_ok-tolerances-requires : goal.tolerances_ok-tolerances-requires
-unfolding session_tests
-tolerances_ok-tolerances-requires c = unfold session_of in (good1_size _ (sym c.good1.ensures ∙ not-false c.good1.result (ap not c.if-not-good1.false))).1
+returns-then-not-good2 c = holds_on Why.Places _ c.good1.ensures (ap not c.if-not-good1.false) (stops Why.Scheme _ c.good2.ensures (ap not c.if-not-good2.true))
 
 pub returns-then-not-in_phase : goal.returns-then-not-in_phase
 unfolding session_tests
 returns-then-not-in_phase c =
     holds_on Why.Places _ c.good1.ensures (ap not c.if-not-good1.false)
-    (holds_on Why.Scheme _ (c.good2.ensures _) (ap not c.if-not-good2.false)
-    (stops Why.Phase _ (c.good7-in_phase.ensures _) (ap not c.if-not-in_phase.true)))
+    (holds_on Why.Scheme _ c.good2.ensures (ap not c.if-not-good2.false)
+    (stops Why.Phase _ c.good7-in_phase.ensures (ap not c.if-not-in_phase.true)))
 
 pub returns-then-not-tolerances : goal.returns-then-not-tolerances
 unfolding session_tests
 returns-then-not-tolerances c =
     let in_phase : c.good7-in_phase.result ≡ true = cc in
     holds_on Why.Places _ c.good1.ensures (ap not c.if-not-good1.false)
-    (holds_on Why.Scheme _ (c.good2.ensures _) (ap not c.if-not-good2.false)
-    (holds_on Why.Phase _ (c.good7-in_phase.ensures _) (ap not in_phase)
-    (stops Why.Tolerance _ (run_tolerances _ _ c.part.ensures c.tolerances_ok-tolerances.ensures) (ap not c.if-not-tolerances.true))))
+    (holds_on Why.Scheme _ c.good2.ensures (ap not c.if-not-good2.false)
+    (holds_on Why.Phase _ c.good7-in_phase.ensures (ap not in_phase)
+    (stops Why.Tolerance _ c.good4-tolerances.ensures (ap not c.if-not-tolerances.true))))
 
 pub returns-then-not-step : goal.returns-then-not-step
 unfolding session_tests
 returns-then-not-step c =
     holds_on Why.Places _ c.good1.ensures (ap not c.if-not-good1.false)
-    (holds_on Why.Scheme _ (c.good2.ensures _) (ap not c.if-not-good2.false)
-    (holds_on Why.Phase _ (c.good7-in_phase.ensures _) (ap not c.if-not-in_phase.false)
-    (holds_on Why.Tolerance _ (run_tolerances _ _ c.part.ensures c.tolerances_ok-tolerances.ensures) (ap not c.if-not-tolerances.false)
+    (holds_on Why.Scheme _ c.good2.ensures (ap not c.if-not-good2.false)
+    (holds_on Why.Phase _ c.good7-in_phase.ensures (ap not c.if-not-in_phase.false)
+    (holds_on Why.Tolerance _ c.good4-tolerances.ensures (ap not c.if-not-tolerances.false)
     (stops Why.Step _ (attempt_step _ _ c.good5-step.ensures) (ap not c.if-not-step.true)))))
 
 pub returns-then-not-numbers : goal.returns-then-not-numbers
 unfolding session_tests
 returns-then-not-numbers c =
     holds_on Why.Places _ c.good1.ensures (ap not c.if-not-good1.false)
-    (holds_on Why.Scheme _ (c.good2.ensures _) (ap not c.if-not-good2.false)
-    (holds_on Why.Phase _ (c.good7-in_phase.ensures _) (ap not c.if-not-in_phase.false)
-    (holds_on Why.Tolerance _ (run_tolerances _ _ c.part.ensures c.tolerances_ok-tolerances.ensures) (ap not c.if-not-tolerances.false)
+    (holds_on Why.Scheme _ c.good2.ensures (ap not c.if-not-good2.false)
+    (holds_on Why.Phase _ c.good7-in_phase.ensures (ap not c.if-not-in_phase.false)
+    (holds_on Why.Tolerance _ c.good4-tolerances.ensures (ap not c.if-not-tolerances.false)
     (holds_on Why.Step _ (attempt_step _ _ c.good5-step.ensures) (ap not c.if-not-step.false)
-    (stops Why.NotFinite _ (time_then _ _ c.finite.ensures (c.arrays_finite-calm.ensures _)) (ap not c.if-not-numbers.true))))))
+    (stops Why.NotFinite _ c.good3-numbers.ensures (ap not c.if-not-numbers.true))))))
 
 pub returns : goal.returns
 unfolding session_tests
 returns c =
     holds_on Why.Places _ c.good1.ensures (ap not c.if-not-good1.false)
-    (holds_on Why.Scheme _ (c.good2.ensures _) (ap not c.if-not-good2.false)
-    (holds_on Why.Phase _ (c.good7-in_phase.ensures _) (ap not c.if-not-in_phase.false)
-    (holds_on Why.Tolerance _ (run_tolerances _ _ c.part.ensures c.tolerances_ok-tolerances.ensures) (ap not c.if-not-tolerances.false)
+    (holds_on Why.Scheme _ c.good2.ensures (ap not c.if-not-good2.false)
+    (holds_on Why.Phase _ c.good7-in_phase.ensures (ap not c.if-not-in_phase.false)
+    (holds_on Why.Tolerance _ c.good4-tolerances.ensures (ap not c.if-not-tolerances.false)
     (holds_on Why.Step _ (attempt_step _ _ c.good5-step.ensures) (ap not c.if-not-step.false)
-    (holds_on Why.NotFinite _ (time_then _ _ c.finite.ensures (c.arrays_finite-calm.ensures _)) (ap not c.if-not-numbers.false) all_hold)))))
+    (holds_on Why.NotFinite _ c.good3-numbers.ensures (ap not c.if-not-numbers.false) all_hold)))))

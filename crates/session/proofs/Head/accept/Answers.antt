@@ -1,7 +1,5 @@
 -- `session::Head::accept` meets its contract. Assumes nothing.
-use native.Mathlib.Omega.{arith}
-use mathlib.Core.Path.{◌≡◌}
-use lib.ListN.{length}
+use Rattle.std.proofs.Common.{arith, ◌≡◌, length}
 use Rattle.session.specs.Figures.{FIGURES}
 use Rattle.session.proofs.Bodies.{lent_made, lent_refused, right_long, first_wrong, then_wrong}
 use Rattle.session.proofs.Head.accept.Goals as goal

@@ -1,5 +1,5 @@
 -- `session::Head::bring_over` meets its contract. Assumes nothing.
-use mathlib.Core.Path.{refl, sym}
+use Rattle.std.proofs.Common.{refl, sym}
 use Rattle.session.specs.Old.{lent_bring_over}
 use Rattle.session.proofs.Bodies.{right_long}
 use Rattle.session.proofs.Head.bring_over.Goals as goal

@@ -1,6 +1,5 @@
 -- `session::Head::drop` meets its contract. Assumes nothing.
-use native.Mathlib.Omega.{arith}
-use borrow.Author.Tests.{eq-eqb, ne_eqb}
+use Rattle.std.proofs.Common.{arith, eq-eqb, ne_eqb}
 use Rattle.session.specs.Calls.{drop_call}
 use Rattle.session.proofs.Bodies.{lent_made, lent_refused}
 use Rattle.session.proofs.Head.drop.Goals as goal

@@ -1,6 +1,5 @@
 -- `session::Head::first_step` meets its contract. Assumes nothing.
-use mathlib.Core.Path.{ap}
-use borrow.Author.Tests.{eq-eqb, ne_eqb}
+use Rattle.std.proofs.Common.{ap, eq-eqb, ne_eqb}
 use Rattle.session.specs.declared.Told.{Told}
 use Rattle.session.specs.Lent.{lent_ask}
 use Rattle.session.proofs.Head.first_step.Goals as goal

@@ -1,8 +1,5 @@
 -- `session::Head::open` meets its contract. Assumes nothing.
-use mathlib.Core.Path.{◌≡◌, ap}
-use native.Mathlib.Omega.{arith}
-use lib.ListN.{length}
-use borrow.Author.Tests.{eq-eqb}
+use Rattle.std.proofs.Common.{◌≡◌, ap, arith, length, eq-eqb}
 use Rattle.session.specs.declared.Head.{Head}
 use Rattle.session.specs.Figures.{FIGURES}
 use Rattle.session.proofs.Bodies.{lent-opened, lent-unopened, left_wrong, first_wrong, then_wrong}

@@ -1,7 +1,5 @@
 -- `session::Head::supply` meets its contract. Assumes nothing.
-use native.Mathlib.Omega.{arith}
-use mathlib.Core.Path.{◌≡◌}
-use lib.ListN.{length}
+use Rattle.std.proofs.Common.{arith, ◌≡◌, length}
 use Rattle.session.specs.Figures.{FIGURES}
 use Rattle.session.proofs.Bodies.{lent_filled, lent_unfilled, right_long, first_wrong, then_wrong}
 use Rattle.session.proofs.Head.supply.Goals as goal

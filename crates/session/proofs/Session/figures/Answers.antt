@@ -1,6 +1,5 @@
 -- `session::Session::figures` meets its contract. Assumes nothing.
-use borrow.Author.Rules.{rules}
-use mathlib.Core.Path.{ap, ◌∙◌}
+use Rattle.std.proofs.Common.{rules, ap, ◌∙◌}
 use Rattle.session.specs.Figures.{session_of, head_of}
 use Rattle.session.proofs.Inverse.{session_back}
 use Rattle.session.proofs.Session.figures.Goals as goal

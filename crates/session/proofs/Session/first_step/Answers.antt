@@ -1,5 +1,5 @@
 -- `session::Session::first_step` meets its contract. Assumes nothing.
-use mathlib.Core.Path.{◌≡◌, ap, ◌∙◌}
+use Rattle.std.proofs.Common.{◌≡◌, ap, ◌∙◌}
 use Rattle.session.specs.declared.Head.{Head}
 use Rattle.session.specs.Figures.{session_of}
 use Rattle.session.proofs.Session.first_step.Goals as goal

@@ -1,5 +1,5 @@
 -- `session::Session::open` meets its contract. Assumes nothing.
-use mathlib.Core.Path.{ap, ◌∙◌}
+use Rattle.std.proofs.Common.{ap, ◌∙◌}
 use Rattle.session.specs.declared.Head.{Head}
 use Rattle.session.proofs.Session.open.Goals as goal
 

@@ -1,9 +1,5 @@
 -- `session::figures::part` meets its contract. Assumes nothing.
-use native.Mathlib.Omega.{arith}
-use mathlib.Core.Path.{ap, ◌∙◌}
-use lib.ListN.{take, drop}
-use Prim.Native.Nat.{ℕ, ◌+◌, ◌-◌}
-use mathlib.Core.Path.{◌≡◌}
+use Rattle.std.proofs.Common.{arith, ap, ◌∙◌, take, drop, ℕ, ◌+◌, ◌-◌, ◌≡◌}
 use Rattle.session.proofs.Parts.{slice_part}
 use Rattle.session.proofs.figures.part.Goals as goal
 

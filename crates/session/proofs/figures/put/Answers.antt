@@ -1,10 +1,5 @@
 -- `session::figures::put` meets its contract. Assumes nothing.
-use native.Mathlib.Omega.{arith}
-use mathlib.Core.Path.{ap, ◌∙◌}
-use mathlib.Core.List.{List}
-use Prim.Native.Nat.{◌+◌, ◌-◌}
-use lib.Ieee.{Float}
-use lib.ListN.{length}
+use Rattle.std.proofs.Common.{arith, ap, ◌∙◌, List, ◌+◌, ◌-◌, Float, length}
 use borrow.Rule.Slice.PartMut.{put_mid}
 use Rattle.session.proofs.Inverse.{put_in}
 use Rattle.session.proofs.figures.put.Goals as goal

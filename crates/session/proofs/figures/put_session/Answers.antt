@@ -1,7 +1,5 @@
 -- `session::figures::put_session` meets its contract. Assumes nothing.
-use borrow.Author.Rules.{rules}
-use mathlib.Core.Path.{◌≡◌}
-use lib.ListN.{length}
+use Rattle.std.proofs.Common.{rules, ◌≡◌, length}
 use Rattle.session.proofs.Inverse.{stored_all, all_stored}
 use Rattle.session.proofs.figures.put_session.Goals as goal
 

@@ -1,10 +1,5 @@
 -- `session::figures::wipe` meets its contract. Assumes nothing.
-use native.Mathlib.Omega.{arith}
-use mathlib.Core.Path.{◌≡◌, ap, ◌∙◌}
-use mathlib.Core.List.{List}
-use Prim.Native.Nat.{ℕ, ◌+◌, ◌-◌}
-use lib.Ieee.{Float}
-use lib.ListN.{replicate}
+use Rattle.std.proofs.Common.{arith, ◌≡◌, ap, ◌∙◌, List, ℕ, ◌+◌, ◌-◌, Float, replicate}
 use Rattle.float.specs.Arith.{zero+}
 use borrow.Rule.Slice.PartMut.{put_mid}
 use Rattle.session.proofs.Inverse.{put_each}

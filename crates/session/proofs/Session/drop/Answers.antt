@@ -1,5 +1,0 @@
--- `session::Session::drop` meets its contract. Assumes nothing.
-use Rattle.session.proofs.Session.drop.Goals as goal
-
-pub returns : goal.returns
-returns c = rw (c.given_back.ensures, c.drop_over-left.ensures, c.head.ensures, c.figures-figures.ensures.1)

@@ -1,1 +1,0 @@
--- `session::take_answer_back` meets its contract. Assumes nothing.
