@@ -4,10 +4,10 @@
 
 ghost use Rattle.std.specs.Prelude.{◌≤◌, IfOk};
 
-use pipe::StandardPipe;
+use pipe::Pipe;
 use session::{Answer, Head, History, Refusal, Session, Told};
 use std::io;
-use std::io::Write;
+use std::io::{Read, Write};
 
 // The most places of a matrix, an input or an output.
 const ROOM: usize = 512;
@@ -19,62 +19,66 @@ fn ended() -> io::Error {
 
 // ---- what a call is handed
 
-fn read_number(pipe: &mut StandardPipe) -> io::Result<usize> {
-    Ok(wire::read_u8(&mut pipe.input)? as usize)
+fn read_number<R: Read, W: Write>(pipe: &mut Pipe<R, W>) -> io::Result<usize> {
+    Ok(wire::get_u8(&mut pipe.input)? as usize)
 }
 
 // How many places a matrix, an input or an output has.
-fn read_length(pipe: &mut StandardPipe) -> io::Result<usize>
+fn read_length<R: Read, W: Write>(pipe: &mut Pipe<R, W>) -> io::Result<usize>
     ensures { IfOk result (λ length. length ≤ 512) }
 {
-    let length = wire::read_u16(&mut pipe.input)? as usize;
+    let length = wire::get_u16(&mut pipe.input)? as usize;
     if length > ROOM {
         return Err(ended());
     }
     Ok(length)
 }
 
-fn read_vector(pipe: &mut StandardPipe) -> io::Result<[f64; image::VECTOR]> {
+fn read_vector<R: Read, W: Write>(pipe: &mut Pipe<R, W>) -> io::Result<[f64; image::VECTOR]> {
     let mut x = [0.0; image::VECTOR];
-    wire::read_doubles(&mut pipe.input, &mut x)?;
+    wire::get_doubles(&mut pipe.input, &mut x)?;
     Ok(x)
 }
 
 // The head that an image begins with.
-fn read_head(pipe: &mut StandardPipe) -> io::Result<Head> {
+fn read_head<R: Read, W: Write>(pipe: &mut Pipe<R, W>) -> io::Result<Head> {
     let mut numbers = [0; image::NUMBERS];
     for number in numbers.iter_mut() {
-        *number = wire::read_u8(&mut pipe.input)? as u64;
+        *number = wire::get_u8(&mut pipe.input)? as u64;
     }
     Ok(image::head_in(&numbers))
 }
 
 // ---- replies
 
-fn say(pipe: &mut StandardPipe, answer: Result<Answer, Refusal>) -> io::Result<()> {
+fn say<R: Read, W: Write>(
+    pipe: &mut Pipe<R, W>,
+    answer: Result<Answer, Refusal>,
+) -> io::Result<()> {
     let r = image::reply_of(answer);
     pipe.output.write_all(&[u8::from(r.outcome), r.refusal])?;
-    wire::write_f64(&mut pipe.output, r.figure)?;
+    wire::put_f64(&mut pipe.output, r.figure)?;
     for count in r.counts {
-        wire::write_u32(&mut pipe.output, count)?;
+        wire::put_u32(&mut pipe.output, count)?;
     }
     Ok(())
 }
 
 // Says the answer; the session goes on.
-fn told(pipe: &mut StandardPipe, t: Told) -> io::Result<Session> {
+fn told<R: Read, W: Write>(pipe: &mut Pipe<R, W>, t: Told) -> io::Result<Session> {
     say(pipe, t.answer)?;
     Ok(t.session)
 }
 
 // ---- the calls
+// Kept: each is handed the pipe and the session and gives the session that comes back, as the core's own calls do; in a struct of both each would write the session back by itself.
 
-fn open(pipe: &mut StandardPipe) -> io::Result<Session> {
-    let scheme = wire::read_u8(&mut pipe.input)?;
+fn open<R: Read, W: Write>(pipe: &mut Pipe<R, W>) -> io::Result<Session> {
+    let scheme = wire::get_u8(&mut pipe.input)?;
     let n = read_number(pipe)?;
-    let history = image::history_of(wire::read_u8(&mut pipe.input)? as u64);
-    let time = wire::read_f64(&mut pipe.input)?;
-    let relative = wire::read_f64(&mut pipe.input)?;
+    let history = image::history_of(wire::get_u8(&mut pipe.input)? as u64);
+    let time = wire::get_f64(&mut pipe.input)?;
+    let relative = wire::get_f64(&mut pipe.input)?;
     let absolute = read_vector(pipe)?;
     let state = read_vector(pipe)?;
     let derivative = read_vector(pipe)?;
@@ -85,76 +89,76 @@ fn open(pipe: &mut StandardPipe) -> io::Result<Session> {
     told(pipe, t)
 }
 
-fn begin(pipe: &mut StandardPipe, s: Session) -> io::Result<Session> {
-    let wish = image::wish_of(wire::read_u8(&mut pipe.input)? as u64);
-    let step = wire::read_f64(&mut pipe.input)?;
+fn begin<R: Read, W: Write>(pipe: &mut Pipe<R, W>, s: Session) -> io::Result<Session> {
+    let wish = image::wish_of(wire::get_u8(&mut pipe.input)? as u64);
+    let step = wire::get_f64(&mut pipe.input)?;
     let mut jacobian = [0.0; image::MATRIX];
-    wire::read_doubles(&mut pipe.input, &mut jacobian)?;
+    wire::get_doubles(&mut pipe.input, &mut jacobian)?;
     let lent = read_length(pipe)?;
     let mut out = [-1.5; ROOM];
     let out = &mut out[..lent];
     let s = told(pipe, s.begin(step, wish, jacobian, out))?;
-    wire::write_doubles(&mut pipe.output, out)?;
+    wire::put_doubles(&mut pipe.output, out)?;
     Ok(s)
 }
 
-fn supply(pipe: &mut StandardPipe, s: Session) -> io::Result<Session> {
+fn supply<R: Read, W: Write>(pipe: &mut Pipe<R, W>, s: Session) -> io::Result<Session> {
     let answer = read_vector(pipe)?;
     let lent = read_length(pipe)?;
     let mut out = [-1.5; ROOM];
     let out = &mut out[..lent];
     let s = told(pipe, s.supply(answer, out))?;
-    wire::write_doubles(&mut pipe.output, out)?;
+    wire::put_doubles(&mut pipe.output, out)?;
     Ok(s)
 }
 
-fn accept(pipe: &mut StandardPipe, s: Session) -> io::Result<Session> {
+fn accept<R: Read, W: Write>(pipe: &mut Pipe<R, W>, s: Session) -> io::Result<Session> {
     let derivative = read_vector(pipe)?;
     told(pipe, s.accept(derivative))
 }
 
-fn first_step(pipe: &mut StandardPipe, s: Session) -> io::Result<Session> {
-    let largest = wire::read_f64(&mut pipe.input)?;
+fn first_step<R: Read, W: Write>(pipe: &mut Pipe<R, W>, s: Session) -> io::Result<Session> {
+    let largest = wire::get_f64(&mut pipe.input)?;
     told(pipe, s.first_step(largest))
 }
 
 // ---- the bare calls
 
-fn exponential(pipe: &mut StandardPipe) -> io::Result<()> {
+fn exponential<R: Read, W: Write>(pipe: &mut Pipe<R, W>) -> io::Result<()> {
     let size = read_number(pipe)?;
     let entries = read_length(pipe)?;
     let lent = read_length(pipe)?;
     let mut m = [0.0; ROOM];
     let m = &mut m[..entries];
-    wire::read_doubles(&mut pipe.input, m)?;
+    wire::get_doubles(&mut pipe.input, m)?;
     let mut out = [-1.5; ROOM];
     let out = &mut out[..lent];
     say(pipe, session::exponential(size, m, out))?;
-    wire::write_doubles(&mut pipe.output, out)
+    wire::put_doubles(&mut pipe.output, out)
 }
 
-fn phi_action(pipe: &mut StandardPipe) -> io::Result<()> {
+fn phi_action<R: Read, W: Write>(pipe: &mut Pipe<R, W>) -> io::Result<()> {
     let n = read_number(pipe)?;
     let order = read_number(pipe)?;
-    let scale_a = wire::read_f64(&mut pipe.input)?;
+    let scale_a = wire::get_f64(&mut pipe.input)?;
     let entries = read_length(pipe)?;
     let inputs = read_length(pipe)?;
     let lent = read_length(pipe)?;
     let mut a = [0.0; ROOM];
     let a = &mut a[..entries];
-    wire::read_doubles(&mut pipe.input, a)?;
+    wire::get_doubles(&mut pipe.input, a)?;
     let mut input = [0.0; ROOM];
     let input = &mut input[..inputs];
-    wire::read_doubles(&mut pipe.input, input)?;
+    wire::get_doubles(&mut pipe.input, input)?;
     let mut out = [-1.5; ROOM];
     let out = &mut out[..lent];
     say(pipe, session::phi_action(n, order, scale_a, a, input, out))?;
-    wire::write_doubles(&mut pipe.output, out)
+    wire::put_doubles(&mut pipe.output, out)
 }
 
-fn error_norm(pipe: &mut StandardPipe) -> io::Result<()> {
+fn error_norm<R: Read, W: Write>(pipe: &mut Pipe<R, W>) -> io::Result<()> {
     let n = read_number(pipe)?;
-    let relative = wire::read_f64(&mut pipe.input)?;
+    let relative = wire::get_f64(&mut pipe.input)?;
     let absolute = read_vector(pipe)?;
     let error = read_vector(pipe)?;
     let state = read_vector(pipe)?;
@@ -167,25 +171,25 @@ fn error_norm(pipe: &mut StandardPipe) -> io::Result<()> {
 
 // ---- a session's image
 
-fn show(pipe: &mut StandardPipe, s: Session) -> io::Result<()> {
+fn show<R: Read, W: Write>(pipe: &mut Pipe<R, W>, s: Session) -> io::Result<()> {
     for number in image::numbers_of(s.head()) {
         pipe.output.write_all(&[(number % 256) as u8])?;
     }
-    wire::write_doubles(&mut pipe.output, &s.figures())
+    wire::put_doubles(&mut pipe.output, &s.figures())
 }
 
-fn load(pipe: &mut StandardPipe) -> io::Result<Session> {
+fn load<R: Read, W: Write>(pipe: &mut Pipe<R, W>) -> io::Result<Session> {
     let k = read_head(pipe)?;
     let mut figures = [0.0; image::FIGURES];
-    wire::read_doubles(&mut pipe.input, &mut figures)?;
+    wire::get_doubles(&mut pipe.input, &mut figures)?;
     Ok(Session::of(k, figures))
 }
 
-// The session that an image of the layout before request 1 is brought over as.
-fn bring_over(pipe: &mut StandardPipe) -> io::Result<Session> {
+// The session that an image of the older layout is brought over as.
+fn bring_over<R: Read, W: Write>(pipe: &mut Pipe<R, W>) -> io::Result<Session> {
     let k = read_head(pipe)?;
     let mut old = [0.0; image::OLD_FIGURES];
-    wire::read_doubles(&mut pipe.input, &mut old)?;
+    wire::get_doubles(&mut pipe.input, &mut old)?;
     let mut figures = [0.0; image::FIGURES];
     k.bring_over(&old, &mut figures);
     Ok(Session::of(k, figures))
@@ -194,8 +198,9 @@ fn bring_over(pipe: &mut StandardPipe) -> io::Result<Session> {
 // ---- the run
 
 // One call of the script: the session that the run goes on with.
-fn call(pipe: &mut StandardPipe, s: Session) -> io::Result<Session> {
-    match wire::read_u8(&mut pipe.input)? {
+// Kept: the match is the table of the script's calls; an enum of them would name each once more, only to be matched here.
+fn call<R: Read, W: Write>(pipe: &mut Pipe<R, W>, s: Session) -> io::Result<Session> {
+    match wire::get_u8(&mut pipe.input)? {
         0 => open(pipe),
         1 => begin(pipe, s),
         2 => supply(pipe, s),
@@ -213,7 +218,7 @@ fn call(pipe: &mut StandardPipe, s: Session) -> io::Result<Session> {
 }
 
 // One call, and its reply is out.
-fn turn(pipe: &mut StandardPipe, s: Session) -> io::Result<Session> {
+fn turn<R: Read, W: Write>(pipe: &mut Pipe<R, W>, s: Session) -> io::Result<Session> {
     let s = call(pipe, s)?;
     pipe.output.flush()?;
     Ok(s)
@@ -226,8 +231,17 @@ fn nothing() -> Session {
 }
 
 // Ends with the script, or at a reply that cannot be written. A proved loop has to end: no run uses up its turns.
-fn main(rt: HostRuntime) -> io::Result<()> {
-    let mut pipe = pipe::standard(rt.alloc(), rt.stdin(), rt.stdout())?;
-    let _ended = (0..u64::MAX).try_fold(nothing(), |s, _| turn(&mut pipe, s));
-    Ok(())
+fn run<R: Read, W: Write>(pipe: &mut Pipe<R, W>) {
+    let _ended = (0..u64::MAX).try_fold(nothing(), |s, _| turn(pipe, s));
+}
+
+// Where no memory is left for the buffers, the streams stand without.
+fn main(rt: HostRuntime) {
+    match pipe::standard(rt.alloc(), rt.stdin(), rt.stdout()) {
+        Ok(mut pipe) => run(&mut pipe),
+        Err(_) => run(&mut Pipe {
+            input: rt.stdin(),
+            output: rt.stdout(),
+        }),
+    }
 }

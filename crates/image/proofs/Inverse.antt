@@ -1,12 +1,5 @@
 -- Packing and unpacking are each other's inverse: `Inverse` of specs/Image.antt. Assumes nothing.
-use Prim.Native.Nat.{ℕ, zero, suc, ◌≤◌, ◌<◌}
-use native.Mathlib.Omega.{arith}
-use mathlib.Core.Path.{◌≡◌, refl, sym, ap, ◌∙◌}
-use mathlib.Core.List.{List}
-use borrow.Author.Tests.{lt-ltb}
-use lib.Ieee.{Float}
-use lib.ListN.{length, get_or}
-use lib.Seq.{ext_get_or}
+use Rattle.std.proofs.Common.{ℕ, zero, suc, ◌≤◌, ◌<◌, arith, ◌≡◌, refl, sym, ap, ◌∙◌, List, lt-ltb, Float, length, get_or, ext_get_or}
 use Rattle.std.specs.Prelude.{Option, Some, None}
 use Rattle.loops.specs.Loop.{tab, from}
 use Rattle.loops.proofs.Loops.{length-tab, get_or-tab}

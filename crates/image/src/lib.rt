@@ -10,7 +10,7 @@ ghost use Rattle.image.specs.Image.{scheme_of, history_of, attempt_of, wish_of, 
 ghost use Rattle.session.specs.Values.{figured, values_of};
 
 use session::{Answer, Head, History, Refusal, Wish};
-// Among the figures; and how many figures there are, today and in the layout before request 1.
+// Among the figures; and how many figures there are, today and in the older layout.
 pub use session::{
     ABSOLUTE_AT, ANSWERS_AT, DERIVATIVE_AT, FIGURES, JACOBIAN_AT, OLD_FIGURES, PREVIOUS_AT,
     RELATIVE_AT, STATE_AT, STEP_AT, TIME_AT,
@@ -76,6 +76,7 @@ impl From<Outcome> for u8 {
 }
 
 // What is told of an answer: the outcome, the refusal's number (0 for none), the figure that it carries, and the counts.
+// Kept: 0 for none, as the C interface and the pipe say it.
 #[derive(Clone, Copy)]
 pub struct Reply {
     pub outcome: Outcome,
@@ -86,7 +87,7 @@ pub struct Reply {
 
 // ---- enums as numbers
 
-// Kept: no `From` for session's enums may stand in another crate than theirs; the first is a `min` that says what a scheme is.
+// Kept: no `From` for session's enums may stand in another crate than theirs; the first says what a number that no byte holds is as a scheme.
 #[tactic(auto, unfolding(crate::specs::Image::scheme_of))]
 pub fn scheme_of(x: u64) -> u8
     ensures { result ≡ scheme_of x }

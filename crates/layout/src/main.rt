@@ -3,10 +3,9 @@
 #![tactic(auto)]
 
 use image::Outcome;
-use std::io;
 
-// Each constant's name, and its value as six digits.
-fn write_layout(rt: &impl Print) -> io::Result<()> {
+// Each constant's name, and its value as six digits. A line that cannot be written is left out.
+fn write_layout(rt: &impl Print) {
     let constants = [
         ("VECTOR", image::VECTOR),
         ("MATRIX", image::MATRIX),
@@ -44,11 +43,10 @@ fn write_layout(rt: &impl Print) -> io::Result<()> {
         ("NORM", Outcome::Norm as usize),
     ];
     for (name, value) in constants {
-        println!(rt; "{name} {value:06}")?;
+        let _ = println!(rt; "{name} {value:06}");
     }
-    Ok(())
 }
 
 fn main(rt: HostRuntime) {
-    let _ = write_layout(&rt);
+    write_layout(&rt);
 }

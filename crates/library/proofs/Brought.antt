@@ -1,8 +1,5 @@
 -- A session of the old layout, brought over: what its numbers and the figures of today hold. Assumes nothing.
-use Prim.Native.Nat.{ℕ}
-use mathlib.Core.Path.{◌≡◌, ap, ◌∙◌}
-use mathlib.Core.List.{List}
-use lib.Ieee.{Float}
+use Rattle.std.proofs.Common.{ℕ, ◌≡◌, ap, ◌∙◌, List, Float}
 use Rattle.session.specs.Figures.{session_of, figures_of}
 use Rattle.session.specs.Old.{old_session_of, brought_over}
 use Rattle.session.proofs.Old.{brought_back}

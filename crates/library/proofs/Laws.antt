@@ -1,19 +1,11 @@
 -- What the length tests of a call show, and what its words say. Assumes nothing.
-use mathlib.Core.Path.{◌≡◌, refl, sym, ap, ◌∙◌}
-use mathlib.Core.Bool.{Bool, true, false, cond, ◌&&◌}
-use mathlib.Core.List.{List, [], ◌∷◌}
 use denote.Enum.Bare.{sameb}
 use Rattle.image.specs.contracts.Outcome.{the_type}
 use Rattle.image.specs.declared.Outcome.{Outcome}
 use Rattle.image.specs.declared.Outcome.TheVariants as outcome
-use lib.Dec.{eqb}
-use lib.Ieee.{Float}
-use lib.ListN.{length, get_or}
-use Prim.Native.Nat.{ℕ}
-use Rattle.std.proofs.Common.{◌≢◌, Option, Some, None, Bor}
+use Rattle.std.proofs.Common.{◌≢◌, Option, Some, None, Bor, ◌≡◌, refl, sym, ap, ◌∙◌, Bool, true, false, cond, ◌&&◌, List, [], ◌∷◌, eqb, Float, length, get_or, ℕ, eqb-true, eq-eqb}
 use Rattle.std.specs.Option.{MatchOption}
 use Rattle.std.specs.Array.{IsWholeChunk}
-use borrow.Author.Tests.{eqb-true, eq-eqb}
 use Rattle.loops.specs.Loop.{tab, from}
 use Rattle.session.specs.declared.Head.{Head}
 use Rattle.session.specs.declared.Answer.{Answer}

@@ -18,7 +18,6 @@ ghost use Rattle.session.specs.Calls.{open_call, begin_call, supply_call, accept
 ghost use Rattle.session.specs.Bare.{exponential_call, phi_call, norm_call};
 ghost use Rattle.session.specs.Values.{is_refused};
 
-use image::Outcome;
 use session::{Answer, Head, Left, Refusal};
 
 // ---- lengths
@@ -41,6 +40,7 @@ fn lent(numbers: &[u64], figures: &[f64], words: &[u64], told: &[f64]) -> bool
 }
 
 // The head that `numbers` hold, where `fits` holds and the slices have their lengths.
+// Kept: `fits` is what three of its five calls test besides; as a pattern of its own, `(true, Some(k))` of a pair, it is no plainer at each.
 fn held(fits: bool, numbers: &[u64], figures: &[f64], words: &[u64], told: &[f64]) -> Option<Head>
     ensures { result ≡ cond (fits && fitting (slices numbers.now figures.now words.now told.now)) (Some (head_in numbers.now)) None }
 {
@@ -64,10 +64,10 @@ fn four(w: &[f64], x: &[f64], y: &[f64], z: &[f64]) -> bool
 
 // ---- what is told
 
-// Leaves what is told of an answer; whether it is a refusal.
-fn say(answer: Result<Answer, Refusal>, words: &mut [u64], told: &mut [f64]) -> bool
+// Leaves what is told of an answer.
+fn say(answer: Result<Answer, Refusal>, words: &mut [u64], told: &mut [f64])
     requires { Hears (room words.old told.old) }
-    ensures { (Said answer (room words.new told.new)) × (result ≡ is_refused answer) }
+    ensures { Said answer (room words.new told.new) }
 {
     let r = image::reply_of(answer);
     let [first, second, third] = r.counts;
@@ -79,21 +79,23 @@ fn say(answer: Result<Answer, Refusal>, words: &mut [u64], told: &mut [f64]) -> 
         third as u64,
     ]);
     told[0] = r.figure;
-    r.outcome == Outcome::Refused
 }
 
 // What a call told, and the numbers of the session that it left, unless it was refused.
+#[tactic(auto, unfolding(session::specs::Values::is_refused, session::specs::Values::values_of, session::specs::Values::figured))]
 fn give_back(left: Left, numbers: &mut [u64], words: &mut [u64], told: &mut [f64])
     requires { (length numbers.old ≡ NUMBERS) × Hears (room words.old told.old) }
     ensures { (numbers.new ≡ cond (is_refused left.answer) numbers.old (packed left.head))
         × Said left.answer (room words.new told.new) }
 {
-    if !say(left.answer, words, told) {
+    say(left.answer, words, told);
+    if left.answer.is_ok() {
         numbers.copy_from_slice(&image::numbers_of(left.head));
     }
 }
 
 // ---- the calls
+// Kept: numbers for a scheme, a history, a wish and an order, and slices one by one, as the C interface has them.
 
 // Opens a run. `held` is 0 where there is no history; `previous` is then +0.0 throughout.
 #[unsafe(no_mangle)]
@@ -147,7 +149,7 @@ pub extern "C" fn vunchrem_open(
     0
 }
 
-// Fills the figures from those that a session of the layout before request 1 had, 628 of them: its tolerance is copied n times. Its numbers stay
+// Fills the figures from those that a session of the older layout had, 628 of them: its tolerance is copied n times. Its numbers stay
 // as they are, and nothing is judged: the next call judges the session.
 #[unsafe(no_mangle)]
 pub extern "C" fn vunchrem_bring_over(numbers: &[u64], old: &[f64], figures: &mut [f64]) -> u32

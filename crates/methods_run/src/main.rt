@@ -7,8 +7,8 @@
 
 ghost use Rattle.std.specs.Prelude.{◌≤◌};
 
-use methods::{Dimension, PLACES, Point, Replay, StepResult};
-use pipe::StandardPipe;
+use methods::{Dimension, EXPRB32, EXPRB43, PLACES, Point, Replay, StepResult};
+use pipe::Pipe;
 use std::io;
 use std::io::{Read, Write};
 
@@ -22,7 +22,7 @@ fn read_vector<R: Read>(input: &mut R, n: usize) -> io::Result<[f64; PLACES]>
     requires { n ≤ 16 }
 {
     let mut x = [0.0; PLACES];
-    wire::read_doubles(input, &mut x[..n])?;
+    wire::get_doubles(input, &mut x[..n])?;
     Ok(x)
 }
 
@@ -39,27 +39,28 @@ fn write_step<W: Write>(
         None => output.write_all(&[0]),
         Some(StepResult::Question(state, time)) => {
             output.write_all(&[1])?;
-            wire::write_f64(output, time)?;
-            wire::write_doubles(output, &state[..n])
+            wire::put_f64(output, time)?;
+            wire::put_doubles(output, &state[..n])
         }
         Some(StepResult::Done(candidate, error, nonlinear, work)) => {
             output.write_all(&[2])?;
-            wire::write_u32(output, work.exponentials)?;
-            wire::write_u32(output, work.products)?;
-            wire::write_doubles(output, &candidate[..n])?;
-            output.write_all(&[(scheme >= 14) as u8])?;
-            wire::write_doubles(output, &error[..n])?;
-            wire::write_doubles(output, &nonlinear[..n])
+            wire::put_u32(output, work.exponentials)?;
+            wire::put_u32(output, work.products)?;
+            wire::put_doubles(output, &candidate[..n])?;
+            let told = scheme == EXPRB32 || scheme == EXPRB43;
+            output.write_all(&[told as u8])?;
+            wire::put_doubles(output, &error[..n])?;
+            wire::put_doubles(output, &nonlinear[..n])
         }
     }
 }
 
 // Answers one record. A dimension that is not 1 to 16, or more than four answers, ends the run; a record that is cut short goes on in zeros.
-fn record(pipe: &mut StandardPipe) -> io::Result<()> {
-    let scheme = wire::read_u8(&mut pipe.input)?;
-    let n = wire::read_u8(&mut pipe.input)? as usize;
-    let held = wire::read_u8(&mut pipe.input)? == 1;
-    let count = wire::read_u8(&mut pipe.input)? as usize;
+fn record<R: Read, W: Write>(pipe: &mut Pipe<R, W>) -> io::Result<()> {
+    let scheme = wire::get_u8(&mut pipe.input)?;
+    let n = wire::get_u8(&mut pipe.input)? as usize;
+    let held = wire::get_u8(&mut pipe.input)? == 1;
+    let count = wire::get_u8(&mut pipe.input)? as usize;
     if n == 0 || n > PLACES || count > ANSWERS {
         return Err(io::Error::from(io::ErrorKind::InvalidData));
     }
@@ -68,17 +69,18 @@ fn record(pipe: &mut StandardPipe) -> io::Result<()> {
     pipe.read_full(&mut doubles[..size]);
     let mut doubles = &doubles[..size];
     let input = &mut doubles;
-    let time = wire::read_f64(input)?;
-    let step = wire::read_f64(input)?;
+    let time = wire::get_f64(input)?;
+    let step = wire::get_f64(input)?;
     let state = read_vector(input, n)?;
     let f0 = read_vector(input, n)?;
     let mut jacobian = [0.0; PLACES * PLACES];
     let jacobian = &mut jacobian[..n * n];
-    wire::read_doubles(input, jacobian)?;
+    wire::get_doubles(input, jacobian)?;
     let previous = read_vector(input, n)?;
-    let mut answers = [0.0; 320];
-    for j in 0..count {
-        wire::read_doubles(input, &mut answers[PLACES * j..PLACES * j + n])?;
+    let mut answers = [0.0; 20 * PLACES];
+    let (places, _) = answers.as_chunks_mut::<PLACES>();
+    for answer in places.iter_mut().take(count) {
+        wire::get_doubles(input, &mut answer[..n])?;
     }
     let point = Point {
         n: Dimension::new(n),
@@ -96,13 +98,25 @@ fn record(pipe: &mut StandardPipe) -> io::Result<()> {
         count,
     };
     let r = schemes::perform_step(scheme, &replay);
-    write_step(&mut pipe.output, scheme, n, r)?;
-    pipe.output.flush()
+    // A reply that cannot be written is left out.
+    let _ = write_step(&mut pipe.output, scheme, n, r);
+    let _ = pipe.output.flush();
+    Ok(())
 }
 
-// Ends with the input, or at a reply that cannot be written. A proved loop has to end: no run uses up its turns.
-fn main(rt: HostRuntime) -> io::Result<()> {
-    let mut pipe = pipe::standard(rt.alloc(), rt.stdin(), rt.stdout())?;
-    let _ended = (0..u64::MAX).try_for_each(|_| record(&mut pipe));
-    Ok(())
+// Ends with the input. A proved loop has to end: no run uses up its turns.
+// Kept: the lines of every such program, as is its main; a function of pipe for them would take `record` as a closure over the pipe that it hands in.
+fn run<R: Read, W: Write>(pipe: &mut Pipe<R, W>) {
+    let _ended = (0..u64::MAX).try_for_each(|_| record(pipe));
+}
+
+// Where no memory is left for the buffers, the streams stand without.
+fn main(rt: HostRuntime) {
+    match pipe::standard(rt.alloc(), rt.stdin(), rt.stdout()) {
+        Ok(mut pipe) => run(&mut pipe),
+        Err(_) => run(&mut Pipe {
+            input: rt.stdin(),
+            output: rt.stdout(),
+        }),
+    }
 }

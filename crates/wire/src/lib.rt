@@ -12,7 +12,7 @@ use std::io::{Read, Write};
 use std::num::{f64_from_bits_with_nan, f64_to_bits_with_nan};
 
 // The next byte.
-pub fn read_u8<R: Read>(input: &mut R) -> io::Result<u8>
+pub fn get_u8<R: Read>(input: &mut R) -> io::Result<u8>
     ensures { IfOk result (λ x. Takes 1 (λ b. b ≡ x ∷ []) (R.remaining input.old) (R.remaining input.new)) }
 {
     let mut b = [0u8; 1];
@@ -21,7 +21,7 @@ pub fn read_u8<R: Read>(input: &mut R) -> io::Result<u8>
 }
 
 // The 16-bit number that comes next.
-pub fn read_u16<R: Read>(input: &mut R) -> io::Result<u16>
+pub fn get_u16<R: Read>(input: &mut R) -> io::Result<u16>
     ensures { IfOk result (λ x. Takes 2 (λ b. x ≡ word16 b 0) (R.remaining input.old) (R.remaining input.new)) }
 {
     let mut b = [0u8; 2];
@@ -30,7 +30,7 @@ pub fn read_u16<R: Read>(input: &mut R) -> io::Result<u16>
 }
 
 // The double that comes next; every NaN's pattern is a NaN.
-pub fn read_f64<R: Read>(input: &mut R) -> io::Result<f64>
+pub fn get_f64<R: Read>(input: &mut R) -> io::Result<f64>
     ensures { IfOk result (λ x. Takes 8 (λ b. x ≡ of_bits binary64 (word64 b 0)) (R.remaining input.old) (R.remaining input.new)) }
 {
     let mut b = [0u8; 8];
@@ -39,35 +39,35 @@ pub fn read_f64<R: Read>(input: &mut R) -> io::Result<f64>
 }
 
 // As many doubles as x has places, one after another.
-pub fn read_doubles<R: Read>(input: &mut R, x: &mut [f64]) -> io::Result<()>
+pub fn get_doubles<R: Read>(input: &mut R, x: &mut [f64]) -> io::Result<()>
     ensures { OnOk result (Takes (8 * length x.new) (HoldsDoubles x.new) (R.remaining input.old) (R.remaining input.new)) }
 {
     for y in x.iter_mut() {
-        *y = read_f64(input)?;
+        *y = get_f64(input)?;
     }
     Ok(())
 }
 
 // The four bytes of x, after what the writer had.
-pub fn write_u32<W: Write>(output: &mut W, x: u32) -> io::Result<()>
+pub fn put_u32<W: Write>(output: &mut W, x: u32) -> io::Result<()>
     ensures { OnOk result (Appends (W.contents output.old) (W.contents output.new) (put32 (blank 4) 0 x)) }
 {
     output.write_all(&x.to_le_bytes())
 }
 
 // The bytes of x's pattern, after what the writer had; a NaN's is 0x7ff8000000000000.
-pub fn write_f64<W: Write>(output: &mut W, x: f64) -> io::Result<()>
+pub fn put_f64<W: Write>(output: &mut W, x: f64) -> io::Result<()>
     ensures { OnOk result (Appends (W.contents output.old) (W.contents output.new) (put64 (blank 8) 0 (to_bits binary64 x))) }
 {
     output.write_all(&f64_to_bits_with_nan(x).to_le_bytes())
 }
 
 // The bytes of all of x, one double after another.
-pub fn write_doubles<W: Write>(output: &mut W, x: &[f64]) -> io::Result<()>
+pub fn put_doubles<W: Write>(output: &mut W, x: &[f64]) -> io::Result<()>
     ensures { OnOk result (Appends (W.contents output.old) (W.contents output.new) (doubles_bytes x.now)) }
 {
     for y in x {
-        write_f64(output, *y)?;
+        put_f64(output, *y)?;
     }
     Ok(())
 }
@@ -82,19 +82,19 @@ mod tests {
     fn round_trip(rt: HostRuntime) -> Result<(), Fail> {
         let mut bytes = Vec::new(rt.alloc());
         bytes.write_all(&[7, 2, 1])?;
-        write_u32(&mut bytes, 3)?;
-        write_f64(&mut bytes, 1.5)?;
-        write_doubles(&mut bytes, &[2.5, -0.5])?;
+        put_u32(&mut bytes, 3)?;
+        put_f64(&mut bytes, 1.5)?;
+        put_doubles(&mut bytes, &[2.5, -0.5])?;
         let mut input = bytes.as_slice();
-        assert_eq!(rt; read_u8(&mut input)?, 7);
-        assert_eq!(rt; read_u16(&mut input)?, 0x0102);
-        assert_eq!(rt; read_u16(&mut input)?, 3);
-        assert_eq!(rt; read_u16(&mut input)?, 0);
-        assert_eq!(rt; read_f64(&mut input)?, 1.5);
+        assert_eq!(rt; get_u8(&mut input)?, 7);
+        assert_eq!(rt; get_u16(&mut input)?, 0x0102);
+        assert_eq!(rt; get_u16(&mut input)?, 3);
+        assert_eq!(rt; get_u16(&mut input)?, 0);
+        assert_eq!(rt; get_f64(&mut input)?, 1.5);
         let mut x = [0.0; 2];
-        read_doubles(&mut input, &mut x)?;
+        get_doubles(&mut input, &mut x)?;
         assert_eq!(rt; x, [2.5, -0.5]);
-        assert!(rt; read_u8(&mut input).is_err());
+        assert!(rt; get_u8(&mut input).is_err());
         Ok(())
     }
 }

@@ -1,6 +1,5 @@
 -- `library::vunchrem_accept` meets its contract. Assumes nothing.
-use Rattle.std.proofs.Common.{refl, sym, ◌∙◌}
-use borrow.Author.Tests.{eqb-true}
+use Rattle.std.proofs.Common.{refl, sym, ◌∙◌, eqb-true}
 use Rattle.session.specs.declared.Session.{Session}
 use Rattle.session.specs.Calls.{accept_call}
 use Rattle.session.proofs.Kept.{accept_same}

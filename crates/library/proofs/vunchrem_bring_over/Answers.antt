@@ -1,6 +1,5 @@
 -- `library::vunchrem_bring_over` meets its contract. Assumes nothing.
-use mathlib.Core.Path.{refl, sym, ◌∙◌}
-use borrow.Author.Tests.{eq-eqb, ne_eqb}
+use Rattle.std.proofs.Common.{refl, sym, ◌∙◌, eq-eqb, ne_eqb}
 use Rattle.session.specs.Old.{lent_bring_over}
 use Rattle.library.specs.Library.{Crossing}
 use Rattle.library.proofs.Brought.{brought}

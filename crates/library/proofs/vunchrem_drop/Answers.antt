@@ -1,6 +1,5 @@
 -- `library::vunchrem_drop` meets its contract. Assumes nothing.
-use Rattle.std.proofs.Common.{refl, sym, ◌∙◌, true}
-use borrow.Author.Tests.{eq-eqb}
+use Rattle.std.proofs.Common.{refl, sym, ◌∙◌, true, eq-eqb}
 use Rattle.session.specs.Calls.{drop_call}
 use Rattle.session.proofs.Kept.{drop_same}
 use Rattle.library.specs.Library.{Crossing}

@@ -36,4 +36,4 @@ returns c =
     )
     at c.error_norm-answer.ensures
     in
-    rw (← c.four.ensures, ← c.hearing.ensures, c.if-not-four-hearing.false, ← answer) (refl, c.say.ensures.0)
+    rw (← c.four.ensures, ← c.hearing.ensures, c.if-not-four-hearing.false, ← answer) (refl, c.say.ensures)

@@ -13,4 +13,4 @@ say-requires c = hears _ (sym c.hearing.ensures ∙ c.if-not-hearing.false)
 
 pub returns : goal.returns
 unfolding Crossing
-returns c = rw (← c.hearing.ensures, c.if-not-hearing.false, ← c.exponential.ensures) (refl, record { said = c.say.ensures.0; out = refl })
+returns c = rw (← c.hearing.ensures, c.if-not-hearing.false, ← c.exponential.ensures) (refl, record { said = c.say.ensures; out = refl })

@@ -1,6 +1,5 @@
 -- `library::vunchrem_first_step` meets its contract. Assumes nothing.
-use Rattle.std.proofs.Common.{refl, true, sym, ◌∙◌}
-use borrow.Author.Tests.{eq-eqb}
+use Rattle.std.proofs.Common.{refl, true, sym, ◌∙◌, eq-eqb}
 use Rattle.session.specs.Lent.{lent_ask}
 use Rattle.library.specs.Library.{Crossing}
 use Rattle.library.proofs.Laws.{held, not_held}
@@ -17,4 +16,4 @@ pub returns : goal.returns
 unfolding Crossing lent_ask
 returns c =
     let h = held true _ _ (sym c.in-Some.is ∙ c.held.ensures) in
-    rw h.both (refl, rw (c.first_step.ensures, eq-eqb _ _ h.slices.figures, h.head) at c.say.ensures.0)
+    rw h.both (refl, rw (c.first_step.ensures, eq-eqb _ _ h.slices.figures, h.head) at c.say.ensures)

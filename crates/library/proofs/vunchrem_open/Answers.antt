@@ -28,5 +28,5 @@ returns c =
       lent_open_lem a.figures.now
           (right_five (length a.figures.now) (length a.absolute.now) (length a.state.now) (length a.derivative.now) (length a.previous.now) FIGURES VECTOR
           (tested c.four.result _ c.lent.ensures c.if-not-four-lent.false).figures long.first long.second long.third long.fourth)
-          _ (rw (c.scheme_of.ensures, c.history_of.ensures) at c.open-left.ensures) (c.copy_from_slice.ensures.after ∙ c.numbers_of.ensures) c.say.ensures.0,
+          _ (rw (c.scheme_of.ensures, c.history_of.ensures) at c.open-left.ensures) (c.copy_from_slice.ensures.after ∙ c.numbers_of.ensures) c.say.ensures,
     )

@@ -1,9 +1,6 @@
 -- `library::vunchrem_supply` meets its contract. Assumes nothing.
-use Rattle.std.proofs.Common.{refl, sym, ◌∙◌}
-use borrow.Author.Tests.{eqb-true}
+use Rattle.std.proofs.Common.{refl, sym, ◌∙◌, eqb-true, List, Float}
 use Rattle.session.specs.declared.Session.{Session}
-use mathlib.Core.List.{List}
-use lib.Ieee.{Float}
 use Rattle.session.specs.Calls.{supply_call}
 use Rattle.session.proofs.Kept.{supply_same}
 use Rattle.library.specs.Library.{Crossing}

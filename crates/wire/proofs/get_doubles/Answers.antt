@@ -1,8 +1,8 @@
--- `wire::read_doubles` meets its contract. Assumes nothing.
+-- `wire::get_doubles` meets its contract. Assumes nothing.
 use Rattle.std.proofs.Common.{◌≡◌, [], arith, refl, length}
 use Rattle.std.proofs.KnownBytes.{Consumes-nil}
 use Rattle.wire.proofs.Doubles.{takes_more}
-use Rattle.wire.proofs.read_doubles.Goals as goal
+use Rattle.wire.proofs.get_doubles.Goals as goal
 
 pub loop-y-init : goal.loop-y-init
 loop-y-init g c = ([], refl, Consumes-nil _, λ k h. absurd (omega (arith, h)))

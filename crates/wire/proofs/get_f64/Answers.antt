@@ -1,9 +1,9 @@
--- `wire::read_f64` meets its contract. Assumes nothing.
+-- `wire::get_f64` meets its contract. Assumes nothing.
 use Rattle.std.proofs.Common.{◌≡◌, arith, ap, ◌∙◌}
 use Rattle.std.specs.Float.{binary64}
 use Rattle.std.specs.Float.Ieee.{of_bits}
 use Rattle.wire.specs.Wire.{word16, word32, word64}
-use Rattle.wire.proofs.read_f64.Goals as goal
+use Rattle.wire.proofs.get_f64.Goals as goal
 
 pub returns : goal.returns
 unfolding word16 word32 word64

@@ -1,7 +1,7 @@
--- `wire::read_u16` meets its contract. Assumes nothing.
+-- `wire::get_u16` meets its contract. Assumes nothing.
 use Rattle.std.proofs.Common.{arith}
 use Rattle.wire.specs.Wire.{word16}
-use Rattle.wire.proofs.read_u16.Goals as goal
+use Rattle.wire.proofs.get_u16.Goals as goal
 
 pub returns : goal.returns
 unfolding word16
