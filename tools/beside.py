@@ -5,6 +5,7 @@
 
 A `-` stands before what was, a `+` before what is.
 """
+import importlib.util
 import json
 import subprocess
 import sys
@@ -41,6 +42,29 @@ def functions(found):
         yield name, lines
 
 
+def moved(path, found, old, new):
+    """Functions of OLD that stand in another file or type of their crate in NEW, with all of their contracts there."""
+    spec = importlib.util.spec_from_file_location('contracts', path)
+    contracts = importlib.util.module_from_spec(spec)
+    spec.loader.exec_module(contracts)
+    before, after = contracts.read(old)[1], contracts.read(new)[1]
+    alone = {row.rsplit(' (requires', 1)[0] for row in found['functions not found again']}
+    name = lambda key: ' '.join(part for part in key if part)
+    row = lambda x, word: [clause[1:] for clause in x[word]]
+    for key, rows in sorted(before.items()):
+        if name(key) not in alone:
+            continue
+        there = [(k, x) for k, xs in sorted(after.items()) if k[0] == key[0] and k[3] == key[3] and k not in before for x in xs]
+        if not there:
+            continue
+        lines = []
+        for x in rows:
+            lines += said('-', x['sign']) + clauses('-', 'requires', row(x, 'requires')) + clauses('-', 'ensures', row(x, 'ensures'))
+        for k, x in there:
+            lines += said('+', f'{k[2]}: {x["sign"]}') + clauses('+', 'requires', row(x, 'requires')) + clauses('+', 'ensures', row(x, 'ensures'))
+        yield name(key), lines
+
+
 def main(argv):
     if len(argv) != 4:
         sys.exit(__doc__)
@@ -49,6 +73,10 @@ def main(argv):
     print('### Functions\n')
     print('Signatures and clauses; a function that has none of a kind here kept that kind as it was.\n')
     for name, lines in functions(found):
+        print(f'`{name}`\n\n```diff\n' + '\n'.join(lines) + '\n```\n')
+    print('### Functions that moved into a type\n')
+    print('All of their clauses, before and after; those that are named after `+` stand in the type there.\n')
+    for name, lines in moved(argv[1], found, argv[2], argv[3]):
         print(f'`{name}`\n\n```diff\n' + '\n'.join(lines) + '\n```\n')
     print('### Definitions and types of specs/\n')
     for crate, name, old, new in found['definitions']['changed']:

@@ -32,8 +32,8 @@ fn all_files() -> Vec<PathBuf> {
     for folder in ["crates", "oracle", "host", "docs", "logging_pass", "bench"] {
         files(&root.join(folder), &mut found);
     }
-    // The page on the port quotes names that are gone.
-    found.retain(|path| !path.ends_with("docs/CLAIMS.md") && !path.ends_with("docs/PORT.md"));
+    // The pages on the port and on the design pass quote names that are gone.
+    found.retain(|path| !["docs/CLAIMS.md", "docs/PORT.md", "docs/DESIGN-PASS.md"].iter().any(|page| path.ends_with(page)));
     found
 }
 
