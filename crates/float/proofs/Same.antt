@@ -38,7 +38,7 @@ same_value (fin t n d) s m e g f v =
     ∙ of_bits-to_bits binary64 (fin s m e) f
 
 -- ---- a double, rounded, is itself
-below : (k l : ℕ) → 2 ^ k ≤ 2 ^ l → k ≤ l
+pub below : (k l : ℕ) → 2 ^ k ≤ 2 ^ l → k ≤ l
 below k l h = go (dec_lt l k)
   where
     go : Dec (l < k) → k ≤ l

@@ -1,8 +1,7 @@
 -- Packing and unpacking are each other's inverse: `Inverse` of specs/Image.antt. Assumes nothing.
-use Rattle.std.proofs.Common.{ℕ, zero, suc, ◌≤◌, ◌<◌, arith, ◌≡◌, refl, sym, ap, ◌∙◌, List, lt-ltb, Float, length, get_or, ext_get_or}
+use Rattle.std.proofs.Common.{ℕ, zero, suc, ◌≤◌, ◌<◌, arith, ◌≡◌, refl, sym, ap, ◌∙◌, List, lt-ltb, Float}
 use Rattle.std.specs.Prelude.{Option, Some, None}
 use Rattle.loops.specs.Loop.{tab, from}
-use Rattle.loops.proofs.Loops.{length-tab, get_or-tab}
 use Rattle.session.specs.declared.Wish.TheVariants.{Given, Difference}
 use Rattle.session.specs.declared.Wish.{Wish}
 use Rattle.session.specs.declared.Session.{Session}
@@ -11,7 +10,7 @@ use Rattle.session.specs.declared.History.{History}
 use Rattle.session.specs.declared.History.TheVariants.{Missing, Held}
 use Rattle.session.specs.Claims.{Typed}
 use Rattle.session.specs.Figures.{session_of, head_of}
-use Rattle.session.proofs.Inverse.{session_back, figures_back}
+use Rattle.session.proofs.Inverse.{spelt, session_back, figures_back}
 use Rattle.image.specs.Image.{NUMBERS, scheme_of, history_of, attempt_of, history_number, attempt_number, head_in, unpacked, packed, packed_numbers, packed_figures, Holds, Inverse}
 
 -- ---- numbers
@@ -61,10 +60,6 @@ unpack_pack_lem s t =
       jacobian = t.jacobian.places;
       answers = t.answers.places;
     })
-
--- a list of n, place by place
-pub spelt : {A : Type 0} (d : A) (n : ℕ) (l : List A) → length l ≡ n → l ≡ tab n (λ i. get_or l i d)
-spelt d n l h = ext_get_or d l (tab n (λ i. get_or l i d)) (h ∙ sym (length-tab n _)) (λ i k. sym (get_or-tab d n (λ i. get_or l i d) i (omega arith)))
 
 numbers_back : (l : List ℕ) (f : List Float) → Holds l f → packed_numbers (unpacked l f) ≡ l
 unfolding packed head_in session_of tab from

@@ -14,7 +14,7 @@ use Rattle.std.specs.Prelude.{Result, Ok, Err}
 use Rattle.session.specs.declared.Refusal.{Refusal}
 use Rattle.session.specs.Values.{Values, values_of, figured}
 use Rattle.session.specs.Figures.{FIGURES}
-use Rattle.image.proofs.Inverse.{spelt}
+use Rattle.session.proofs.Inverse.{spelt}
 use Rattle.image.specs.Image.{VECTOR, NUMBERS, WORDS, head_in, outcome_number}
 use Rattle.library.specs.Library.{Room, Slices, heard, fitting, vectors, Hears, Fits, words_of}
 
@@ -97,10 +97,6 @@ not_held a l r e none = go (a && fitting l) e
 -- what the tests of an open show: the slices fit
 pub tested : (a : Bool) {b : Bool} (l : Slices) → b ≡ fitting l → (a && b) ≡ true → Fits l
 tested a l f h = fits l (sym f ∙ and_right a _ h)
-
--- two lengths as the calls over lent figures test them
-pub right_two : (a b c d : ℕ) → a ≡ b → c ≡ d → (eqb a b && eqb c d) ≡ true
-right_two a b c d e f = rw (eq-eqb a b e, eq-eqb c d f)
 
 pub right_five : (a b c d e m n : ℕ) → a ≡ m → b ≡ n → c ≡ n → d ≡ n → e ≡ n → (eqb a m && eqb b n && eqb c n && eqb d n && eqb e n) ≡ true
 right_five a b c d e m n o p q r s = rw (eq-eqb a m o, eq-eqb b n p, eq-eqb c n q, eq-eqb d n r, eq-eqb e n s)

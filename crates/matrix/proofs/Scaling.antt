@@ -1,8 +1,7 @@
 -- The scaled matrix: where 2 ^ s is twice the largest row sum at least, the rows of the matrix divided by 2 ^ s sum to little more than a half. Assumes nothing.
-use Rattle.std.proofs.Common.{◌≡◌, refl, sym, ap, ◌∙◌, subst, inl, inr, ℕ, zero, suc, ◌+◌, ◌-◌, ◌*◌, ◌/◌, ◌%◌, ◌^◌, ◌≤◌, ◌<◌, le_trans, le_refl, le_of_eq, lt_of_not-le, eq-or-lt_of_le, not-le_of_lt, zero-lt-suc, zero-mul, add-mul, mul-one, mul_comm, mul_assoc, mul_left_comm, mul_right_comm, mul-le-mul_right, mul-le-mul_left, mul-pos, le_of_mul-le-mul_right, le_of_suc-le-suc, one-mul, arith, Bool, true, false, cond, ◌&&◌, true≢false, T, leb, ltb, eqb, leb→le, pow_pos, pow-add, pos, negsuc, Float}
+use Rattle.std.proofs.Common.{◌≡◌, refl, sym, ap, ◌∙◌, subst, inl, inr, ℕ, zero, suc, ◌+◌, ◌-◌, ◌*◌, ◌/◌, ◌%◌, ◌^◌, ◌≤◌, ◌<◌, le_trans, le_refl, le_of_eq, eq-or-lt_of_le, zero-lt-suc, zero-mul, add-mul, mul-one, mul_comm, mul_assoc, mul_left_comm, mul_right_comm, mul-le-mul_right, mul-le-mul_left, mul-pos, le_of_mul-le-mul_right, le_of_suc-le-suc, one-mul, arith, Bool, true, false, cond, ◌&&◌, true≢false, T, leb, ltb, eqb, leb→le, pow_pos, pow-add, pos, negsuc, Float}
 use Rattle.std.proofs.Math.Nat.{le-suc}
 use Rattle.std.proofs.Math.Bool.{beq}
-use Rattle.std.proofs.Math.Pow.{pow-lt}
 use Rattle.std.specs.Float.Ieee.{nan, inf, fin, binary64, emax, up, down, fits, add, round, sum}
 use lib.Ieee.Digits.{back}
 use lib.Ieee.Fits.{down_pos, and_l, and_r}
@@ -15,12 +14,10 @@ use Rattle.float.proofs.Mag.{Near, near_cancel, equals_on, equals_mag, value_equ
 use Rattle.float.proofs.Signed.{sgn, Rounds, div_rounds}
 use Rattle.float.proofs.Total.{total, entry_le}
 use Rattle.matrix.proofs.RowSums.{On64, mag64, unit64, lit_left, crude, spread, big_unit}
+use Rattle.float.proofs.Same.{below}
 use Rattle.matrix.proofs.Stop.{Pos64, abs_pos, abs_mag}
 
 -- ---- a binary64 value that is finite is a whole number of units
-expo : (k l : ℕ) → 2 ^ k ≤ 2 ^ l → k ≤ l
-expo k l h = le_of_suc-le-suc (lt_of_not-le (λ (g : suc l ≤ k). not-le_of_lt (pow-lt g) h))
-
 neg_exp : (m k l : ℕ) → suc k ≤ l → m * 1 * 2 ^ l ≡ m * 2 ^ (l - suc k) * 2 ^ suc k
 neg_exp m k l h = ap (λ (z : ℕ). z * 2 ^ l) (mul-one m) ∙ ap (λ (z : ℕ). m * z) (ap (λ (z : ℕ). 2 ^ z) (sym (back l (suc k) h)) ∙ pow-add 2 (l - suc k) (suc k))
     ∙ sym (mul_assoc m (2 ^ (l - suc k)) (2 ^ suc k))
@@ -36,7 +33,7 @@ fits_on (fin s (suc m) (negsuc k)) f t =
     let b : Bool = ltb (suc m) (2 ^ 53) in
     let c : Bool = leb (2 ^ suc k) unit64 in
     let d : Bool = ltb (suc m * 1) (2 ^ 1024 * 2 ^ suc k) in
-    let l : suc k ≤ 1074 = expo (suc k) 1074 (leb→le (2 ^ suc k) unit64 (and_r (a && b) c (and_l (a && b && c) d f))) in
+    let l : suc k ≤ 1074 = below (suc k) 1074 (leb→le (2 ^ suc k) unit64 (and_r (a && b) c (and_l (a && b && c) d f))) in
     equals_on binary64 (fin s (suc m) (negsuc k)) (suc m * 2 ^ (1074 - suc k)) (neg_exp (suc m) k 1074 l)
 
 -- ---- the sum of two values that are not negative

@@ -1,10 +1,6 @@
 -- Places of a matrix, what is lent, the orders, and what the exponentials' two outcomes are. Assumes nothing.
-use Rattle.std.proofs.Common.{◌≡◌, ℕ, zero, suc, ◌+◌, ◌-◌, ◌*◌, ◌/◌, ◌%◌, ◌<◌, ◌≤◌, Bool, true, false, cond, List, ◌∷◌, length, take, replicate, map, sym, refl, ap, ◌∙◌, not-suc-le-zero, mul-le-mul, div-add-mod', arith, Float, ◌&&◌}
-use Rattle.std.specs.List.{list_all, range_with_len}
-use Rattle.std.proofs.lemmas.List.Folds.{list_all-append, list_all-map}
-use Rattle.std.proofs.lemmas.List.FromFn.{map-range_with_len_more}
-use Rattle.std.proofs.Math.Bool.{and-true}
-use Rattle.loops.specs.Loop.{mat, every, ◌!◌}
+use Rattle.std.proofs.Common.{◌≡◌, ℕ, zero, suc, ◌+◌, ◌-◌, ◌*◌, ◌/◌, ◌%◌, ◌<◌, ◌≤◌, Bool, true, false, cond, List, ◌∷◌, length, take, replicate, sym, refl, ap, ◌∙◌, not-suc-le-zero, mul-le-mul, div-add-mod', arith, Float}
+use Rattle.loops.specs.Loop.{mat, ◌!◌}
 use Rattle.loops.proofs.Places.{row_fits}
 use Rattle.float.specs.Arith.{◌⊗◌}
 use Rattle.matrix.specs.declared.Reach.{Reach}
@@ -30,21 +26,6 @@ scale_at c a n p = ap (λ q. c ⊗ a ! q) (sym (div-add-mod' p n))
 -- a row ends within its matrix
 pub row_inside : {n : ℕ} {a : List Float} → Sized n a → (i : ℕ) → i < n → (i * n + n ≤ length a) × (length a ≤ 256)
 row_inside {n} s i h = (rw s.square (row_fits i n h), rw s.square (mul-le-mul s.small s.small))
-
--- the library's test of each number below n
-pub all_below : (test : ℕ → Bool) (n : ℕ) → list_all test (range_with_len 0 n) ≡ every n test
-unfolding every
-all_below test n = sym (list_all-map (λ b. b) test (range_with_len 0 n)) ∙ go n
-  where
-    kept : ℕ → Bool
-    kept k = list_all (λ b. b) (map test (range_with_len 0 k))
-
-    one_more : (k m : ℕ) → m ≡ k + 1 → kept m ≡ (kept k && test k)
-    one_more k m e = rw (e, map-range_with_len_more test 0 k k (omega arith), list_all-append, and-true)
-
-    go : (k : ℕ) → kept k ≡ every k test
-    go zero = refl
-    go (suc k) = one_more k (suc k) (omega arith) ∙ rw (go k)
 
 -- an order is at least 1
 pub order_some : (order : Order) → 1 ≤ order_number order

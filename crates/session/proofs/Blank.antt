@@ -21,6 +21,7 @@ use Rattle.loops.proofs.Stores.{all_first, stores-suc, stores-stores}
 use Rattle.float.specs.Arith.{◌⊕◌, mark, zero+, finite, plus_zero}
 use Rattle.evaluation.specs.Evaluation.{all_finite}
 use Rattle.session.specs.Session.{clear, in_answers, clear_answers}
+use Rattle.float.proofs.Floats.{zero_number}
 use Rattle.float.proofs.Marks.{marks, marked}
 use Rattle.session.proofs.Clear.{zero_plus, plus_zero_is}
 
@@ -86,12 +87,6 @@ numbers (inf s) (fin t n d) h = (tt, tt)
 numbers (fin s m e) nan h = absurd h
 numbers (fin s m e) (inf t) h = (tt, tt)
 numbers (fin s m e) (fin t n d) h = (tt, tt)
-
-zero_number : (x : Float) → eq x zero+ ≡ true → T (not (is_nan x))
-unfolding eq is_nan
-zero_number nan h = absurd (false≢true h)
-zero_number (inf s) h = tt
-zero_number (fin s m e) h = tt
 
 zeros : zero+ ⊕ zero+ ≡ zero+
 unfolding mark

@@ -3,7 +3,7 @@ use Rattle.std.proofs.Common.{ℕ, ◌+◌, ◌-◌, ◌≤◌, ◌<◌, zero-ad
 use Rattle.std.proofs.Math.Decide.{dec_lt}
 use Rattle.std.specs.Float.Ieee.{nan}
 use Rattle.loops.specs.Loop.{every, stores, ◌!◌}
-use Rattle.loops.proofs.Loops.{every_of, length-tab, tab_at}
+use Rattle.loops.proofs.Loops.{every_of, length-tab, tab_at, every_fails}
 use Rattle.loops.proofs.Stores.{is_tab, stores_in, length-stores}
 use Rattle.float.specs.Arith.{zero+, plus_zero}
 use Rattle.evaluation.specs.Sizes.{places, answer_room}
@@ -28,7 +28,6 @@ use Rattle.session.specs.Bare.{norm_tests, norm_call}
 use Rattle.session.specs.Old.{old_figures, old_state_at, old_derivative_at, old_previous_at, old_jacobian_at, old_answers_at, old_session_of}
 use Rattle.session.specs.Old.{copied, tolerating, brought_over, both_positive, old_run_places, old_tests, old_norm_tests, old_norm_call, AsBefore}
 use Rattle.session.proofs.Clear.{zero_plus}
-use Rattle.session.proofs.Tolerances.{every_fails}
 use Rattle.session.proofs.Laws.{size_both, session_fails}
 use Rattle.session.proofs.Parts.{length_part, part_at, is_part, slice_part, read_before, part_before, part_put}
 use Rattle.session.proofs.Inverse.{Long, session_back, figures_back}

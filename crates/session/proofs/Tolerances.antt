@@ -1,21 +1,13 @@
 -- Each of the n tolerances counts, and no place past them does. Assumes nothing.
-use Rattle.std.proofs.Common.{ℕ, ◌≤◌, ◌<◌, arith, ◌≡◌, refl, sym, ◌∙◌, Bool, true, false, cond, ◌||◌, true≢false, List, ltb, Float, length, le-ltb}
+use Rattle.std.proofs.Common.{ℕ, ◌≤◌, ◌<◌, arith, ◌≡◌, refl, Bool, true, false, cond, ◌||◌, List, ltb, Float, length, le-ltb}
 use Rattle.std.proofs.Math.Bool.{and-false}
-use Rattle.loops.specs.Loop.{every, ◌!◌}
-use Rattle.loops.proofs.Loops.{every_at, every_of}
+use Rattle.loops.specs.Loop.{◌!◌}
+use Rattle.loops.proofs.Loops.{every_of, every_fails}
 use Rattle.float.specs.Arith.{plus_zero}
 use Rattle.evaluation.specs.Sizes.{places}
 use Rattle.session.specs.declared.Session.{Session}
 use Rattle.session.specs.Session.{clear, size_ok, run_places, good1, positive, tolerances_ok, good4}
 use Rattle.session.specs.Claims.{Tolerances}
-
--- a test that one of n items fails
-pub every_fails : (n : ℕ) (f : ℕ → Bool) (i : ℕ) → i < n → f i ≡ false → every n f ≡ false
-every_fails n f i l h = go (every n f) refl
-  where
-    go : (b : Bool) → every n f ≡ b → every n f ≡ false
-    go true q = absurd (true≢false (sym (every_at n f q i l) ∙ h))
-    go false q = q
 
 bad_each : (s : Session) (i : ℕ) → i < s.n → positive (s.absolute ! i) ≡ false → good4 s ≡ false
 unfolding good4 tolerances_ok

@@ -29,6 +29,7 @@ impl Attempt<'_> {
     ghost use Rattle.session.specs.Calls.{outcome, tell, refuse_lent, shown, ready_of};
     ghost use Rattle.session.specs.Lent.{tried, column_asked, stepped_from, supplied_from};
 
+    // Kept: as that of a Lent, by a ghost field of its own; a trait for the line would have to say both facts.
     #[tactic(auto, unfolding(crate::specs::Figures::session_of))]
     fn n(&self) -> Dimension
         ensures { result ≡ self.now.head.n }

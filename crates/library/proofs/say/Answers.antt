@@ -4,7 +4,7 @@ use Rattle.session.specs.Values.{Values}
 use Rattle.loops.specs.Loop.{tab, from}
 use Rattle.std.specs.Float.Ieee.{nan}
 use Rattle.image.specs.Image.{fields}
-use Rattle.image.proofs.Inverse.{spelt}
+use Rattle.session.proofs.Inverse.{spelt}
 use Rattle.library.proofs.Laws.{counts_three, said_words}
 use Rattle.library.proofs.say.Goals as goal
 

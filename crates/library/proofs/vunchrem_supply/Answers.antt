@@ -4,7 +4,8 @@ use Rattle.session.specs.declared.Session.{Session}
 use Rattle.session.specs.Calls.{supply_call}
 use Rattle.session.proofs.Kept.{supply_same}
 use Rattle.library.specs.Library.{Crossing}
-use Rattle.library.proofs.Laws.{held, not_held, right_two}
+use Rattle.session.proofs.Bodies.{right_long}
+use Rattle.library.proofs.Laws.{held, not_held}
 use Rattle.library.proofs.Kept.{lent_back_out}
 use Rattle.library.proofs.vunchrem_supply.Goals as goal
 
@@ -21,6 +22,6 @@ returns c =
     let h = held _ _ _ (sym c.in-Some.is ∙ c.held.ensures) in
     rw h.both (
       refl,
-      lent_back_out c.args.numbers.now c.args.figures.now _ h.slices.figures (right_two _ _ _ _ h.slices.figures (eqb-true _ _ h.fits)) c.give_back.ensures.0 c.give_back.ensures.1
+      lent_back_out c.args.numbers.now c.args.figures.now _ h.slices.figures (right_long _ _ _ _ h.slices.figures (eqb-true _ _ h.fits)) c.give_back.ensures.0 c.give_back.ensures.1
           (λ (s : Session) (o : List Float). supply_call s c.args.answer.now o) c.args.out.now (rw (h.head) at c.supply-left.ensures) (supply_same _ _ _),
     )

@@ -1,4 +1,4 @@
-use Rattle.std.proofs.Common.{◌≡◌, ◌+◌, length, suc}
+use Rattle.std.proofs.Common.{◌≡◌, ◌+◌, length}
 use Rattle.loops.specs.Loop.{◌!◌}
 use Rattle.float.specs.Arith.{◌⊗◌, sum_of}
 use Rattle.matrix.proofs.row_dot.Given as goal

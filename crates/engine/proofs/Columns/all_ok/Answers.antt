@@ -2,7 +2,7 @@
 use Rattle.std.proofs.Common.{rules, ◌∙◌, refl}
 use Rattle.std.proofs.lemmas.Iterator.{YieldsList-from_range}
 use Rattle.std.proofs.lemmas.Iterator.Search.{all_from_yields_List}
-use Rattle.engine.proofs.Ranges.{all_range}
+use Rattle.loops.proofs.Ranges.{all_range}
 use Rattle.engine.proofs.Columns.all_ok.Goals as goal
 
 pub returns : goal.returns

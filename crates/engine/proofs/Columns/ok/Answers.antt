@@ -5,7 +5,7 @@ use Rattle.std.proofs.lemmas.Iterator.Search.{all_from_yields_List}
 use Rattle.loops.specs.Loop.{◌!◌}
 use Rattle.float.specs.Arith.{◌⊖◌, ◌⊘◌, finite}
 use Rattle.engine.proofs.Differences.{column_told}
-use Rattle.engine.proofs.Ranges.{all_range}
+use Rattle.loops.proofs.Ranges.{all_range}
 use Rattle.engine.proofs.Columns.ok.Goals as goal
 
 pub returns-then-moved_finite : goal.returns-then-moved_finite
