@@ -5,8 +5,7 @@ use Rattle.session.specs.declared.Head.{Head}
 use Rattle.session.specs.declared.Left.{Left}
 use Rattle.session.specs.declared.Told.{Told}
 use Rattle.session.specs.Values.{is_refused}
-use Rattle.session.specs.Session.{Run}
-use Rattle.session.specs.Calls.{Outcome, open_call}
+use Rattle.session.specs.Calls.{Outcome}
 use Rattle.session.specs.Figures.{FIGURES, session_of, figures_of}
 use Rattle.session.specs.Lent.{Remains, remains, Fills, fills, left, lent_call, lent_fill, lent_open}
 use Rattle.session.proofs.Kept.{Same}
@@ -56,10 +55,10 @@ module _ (n : List ℕ) (x : List Float) (before : Room) (long : length x ≡ FI
       }
 
 -- an open leaves the session that it gives, that of a refused open too
-pub lent_open_lem : (x : List Float) {fits : Bool} → fits ≡ true → (r : Run) {l : Left} {n' : List ℕ} {x' : List Float} {after : Room} → remains l x' ≡ lent_open fits x r
-    → n' ≡ packed l.head → Said l.answer after → Opened (open_call r) (record { numbers = n'; figures = x'; reply = after })
+pub lent_open_lem : (x : List Float) {fits : Bool} → fits ≡ true → (t : Told) {l : Left} {n' : List ℕ} {x' : List Float} {after : Room} → remains l x' ≡ lent_open fits x t
+    → n' ≡ packed l.head → Said l.answer after → Opened t (record { numbers = n'; figures = x'; reply = after })
 unfolding lent_open left
-lent_open_lem x right r {l} {n'} {x'} e numbers said =
-    let made : remains l x' ≡ remains (left (open_call r)) (figures_of (open_call r).session) = rw right at e in
-    let is : l ≡ left (open_call r) = ap (λ (q : Remains). q.left) made in
+lent_open_lem x right t {l} {n'} {x'} e numbers said =
+    let made : remains l x' ≡ remains (left t) (figures_of t.session) = rw right at e in
+    let is : l ≡ left t = ap (λ (q : Remains). q.left) made in
     record { numbers = rw is at numbers; figures = ap (λ (q : Remains). q.figures) made; said = rw is at said }

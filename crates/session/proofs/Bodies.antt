@@ -13,10 +13,10 @@ use Rattle.session.specs.declared.Answer.{Answer}
 use Rattle.session.specs.declared.Wish.{Wish}
 use Rattle.session.specs.declared.Phase.TheVariants.{Rest, Asking}
 use Rattle.session.specs.Tests.{tested, condition, unless}
-use Rattle.session.specs.Session.{Run, Sound, clear, used_jacobian, admits, good7, session_tests, progress}
+use Rattle.session.specs.Session.{Sound, clear, used_jacobian, admits, good7, session_tests, progress}
 use Rattle.session.specs.Claims.{Closed, Typed}
 use Rattle.session.specs.Calls.{Outcome, outcome, tell, refuse_lent, opened, nothing, begun, rested, answered, shown}
-use Rattle.session.specs.Calls.{open_call, attempt_tests, begin_tests, supply_tests, begin_call, supply_call}
+use Rattle.session.specs.Calls.{attempt_tests, begin_tests, supply_tests, begin_call, supply_call}
 use Rattle.session.specs.Figures.{FIGURES, session_of, head_of, figures_of}
 use Rattle.session.specs.Lent.{told_by, refused_by, Remains, remains, left, fills, lent_call, lent_open, lent_fill}
 use Rattle.session.proofs.Laws.{passed_sound, wants_more, few_answers, begin_passes, begin_length, supply_passes, vector_length, attempt_row, begun_sound, answered_sound}
@@ -123,9 +123,9 @@ module _ (k : Head) (x : List Float) {fits : Bool} (right : fits ≡ true) {l : 
   unfolding lent_fill
   lent_filled out out' call e = rw (right, ← e) (ap (λ (r : Remains). record { remains = r; out = out' }) (sym home))
 
-  pub lent-opened : (r : Run) → told_by l y ≡ open_call r → remains l y ≡ lent_open fits x r
+  pub lent-opened : (t : Told) → told_by l y ≡ t → remains l y ≡ lent_open fits x t
   unfolding lent_open
-  lent-opened r e = rw (right, ← e) (sym home)
+  lent-opened t e = rw (right, ← e) (sym home)
 
 -- where one is not
 module _ (k : Head) (x : List Float) {fits : Bool} (wrong : fits ≡ false) {l : Left} where
@@ -137,9 +137,9 @@ module _ (k : Head) (x : List Float) {fits : Bool} (wrong : fits ≡ false) {l :
   unfolding lent_fill
   lent_unfilled out call e = rw (wrong, e)
 
-  pub lent-unopened : (r : Run) → k ≡ head_of nothing → l ≡ refused_by k Why.Places → remains l x ≡ lent_open fits x r
+  pub lent-unopened : (t : Told) → k ≡ head_of nothing → l ≡ refused_by k Why.Places → remains l x ≡ lent_open fits x t
   unfolding lent_open
-  lent-unopened r n e = rw (wrong, e, n)
+  lent-unopened t n e = rw (wrong, e, n)
 
 -- lengths that were tested
 pub right_long : (a b c d : ℕ) → a ≡ b → c ≡ d → (eqb a b && eqb c d) ≡ true

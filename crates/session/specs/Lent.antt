@@ -14,8 +14,8 @@ use Rattle.session.specs.declared.Refusal.TheVariants as Why
 use Rattle.loops.specs.Loop.{mat}
 use Rattle.methods.specs.Step.{Progress}
 use Rattle.engine.specs.Engine.{perturbed, jacobian_entry, column_ok}
-use Rattle.session.specs.Session.{Run, stepped, question}
-use Rattle.session.specs.Calls.{Outcome, told, nothing, open_call}
+use Rattle.session.specs.Session.{stepped, question}
+use Rattle.session.specs.Calls.{Outcome, told, nothing}
 use Rattle.session.specs.Figures.{session_of, head_of, figures_of}
 
 -- ---- what the code's steps hand on
@@ -80,10 +80,9 @@ lent_call fits k figures call =
     let t = call (session_of k figures) in
     cond fits (remains (left t) (figures_of t.session)) (remains (refused_by k Why.Places) figures)
 
--- an open, which fills all the figures; one that is lent others is refused for its places
-unfoldable pub lent_open : Bool → List Float → Run → Remains
-lent_open fits figures r =
-    let t = open_call r in
+-- what an open tells, which fills all the figures; one that is lent others is refused for its places
+unfoldable pub lent_open : Bool → List Float → Told → Remains
+lent_open fits figures t =
     cond fits (remains (left t) (figures_of t.session)) (remains (refused_by (head_of nothing) Why.Places) figures)
 
 -- a call that only tells

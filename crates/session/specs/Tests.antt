@@ -12,6 +12,7 @@ refusal_number Why.Tolerance = 4
 refusal_number Why.Step = 5
 refusal_number Why.Arithmetic = 6
 refusal_number Why.Phase = 7
+refusal_number Why.Table = 8
 
 -- a row: a condition, and the refusal that is given where it is the first to fail
 abbrev pub Tests : Type 0

@@ -70,7 +70,7 @@ pub enum Answer {
 }
 
 // Why a call is refused: places or a dimension, the scheme with its history and answers, a number that is not finite, a tolerance, a step,
-// arithmetic that is not admitted, the phase.
+// arithmetic that is not admitted, the phase; and, by the crate `table` alone, a table of equations.
 #[derive(Clone, Copy, Debug, PartialEq, Eq)]
 pub enum Refusal {
     Places,
@@ -80,6 +80,7 @@ pub enum Refusal {
     Step,
     Arithmetic,
     Phase,
+    Table,
 }
 
 impl From<Refusal> for u8 {
@@ -95,6 +96,7 @@ impl From<Refusal> for u8 {
             Refusal::Step => 5,
             Refusal::Arithmetic => 6,
             Refusal::Phase => 7,
+            Refusal::Table => 8,
         }
     }
 }
@@ -246,8 +248,9 @@ fn positive(x: f64) -> bool
     float::finite(x) & (0.0 < x)
 }
 
+// A step is finite and not zero.
 #[tactic(auto, unfolding(crate::specs::Session::step_ok))]
-fn step_ok(h: f64) -> bool
+pub fn step_ok(h: f64) -> bool
     ensures { result ≡ step_ok h }
 {
     float::finite(h) & !(h == 0.0)
@@ -290,8 +293,8 @@ fn good1(k: Head, figures: &Figures) -> bool
     false
 }
 
-// Why a session is refused, if it is.
-fn test_session(wants: Option<Phase>, k: Head, figures: &Figures) -> Result<(), Refusal>
+// Why a session is refused, if it is, by a call that wants this phase.
+pub fn test_session(wants: Option<Phase>, k: Head, figures: &Figures) -> Result<(), Refusal>
     ensures { result ≡ tested (session_tests wants (session_of k figures.now)) }
 {
     if !good1(k, figures) {
@@ -537,7 +540,7 @@ fn put_run(
 }
 
 // What a refused open leaves: n and scheme 0, no attempt, no history, every figure +0.0.
-fn put_nothing(figures: &mut Figures) -> Head
+pub fn put_nothing(figures: &mut Figures) -> Head
     ensures { session_of result figures.new ≡ nothing }
 {
     wipe(figures, 0, FIGURES);
@@ -571,7 +574,7 @@ fn no_head() -> Head
     }
 }
 
-// ---- the calls over lent figures: what is tested, what is worked out, what of the session changes
+// ---- the calls over lent figures, once their lengths are tested: what is tested, what is worked out, what of the session changes
 
 fn refused(k: Head, refusal: Refusal) -> Left
     ensures { result ≡ refused_by k refusal }
@@ -592,8 +595,10 @@ fn resting(k: Head) -> Left
 }
 
 #[tactic(auto, unfolding(crate::specs::Calls::open_call, crate::specs::Tests::unless))]
-fn open_over(
-    k: Head,
+pub fn open_over(
+    scheme: u8,
+    n: usize,
+    history: History,
     time: f64,
     relative: f64,
     absolute: &[f64; PLACES],
@@ -602,22 +607,22 @@ fn open_over(
     previous: &[f64; PLACES],
     figures: &mut Figures,
 ) -> Left
-    requires { (k.attempt ≡ None) × (k.count ≡ 0) }
     ensures { told_by result figures.new ≡ open_call (record {
-      scheme = k.scheme;
-      n = k.n;
+      scheme = scheme;
+      n = n;
       time = «time»;
       state = state.now;
       derivative = derivative.now;
       relative = «relative»;
       absolute = absolute.now;
-      history = k.history;
+      history = history;
       previous = previous.now;
     }) }
 {
     put_run(
         time, relative, absolute, state, derivative, previous, figures,
     );
+    let k = unopened(scheme, n, history);
     if let Err(refusal) = test_session(None, k, figures) {
         return refused(put_nothing(figures), refusal);
     }
@@ -625,7 +630,7 @@ fn open_over(
 }
 
 // Kept: step, wish and Jacobian are handed on from the two ways to begin to here; a struct of them would be made by each and taken apart here.
-fn begin_over(
+pub fn begin_over(
     k: Head,
     figures: &mut Figures,
     step: f64,
@@ -654,7 +659,7 @@ fn begin_over(
     }
 }
 
-fn supply_over(k: Head, figures: &mut Figures, answer: &[f64; PLACES], out: &mut [f64]) -> Left
+pub fn supply_over(k: Head, figures: &mut Figures, answer: &[f64; PLACES], out: &mut [f64]) -> Left
     ensures { outcome (told_by result figures.new) out.new ≡ supply_call (session_of k figures.old) answer.now out.old }
 {
     if let Err(refusal) = test_supply(k, figures, answer, out.len()) {
@@ -709,7 +714,7 @@ fn settle(k: Head, figures: &mut Figures, derivative: &[f64; PLACES]) -> Left
     }
 }
 
-fn accept_over(k: Head, figures: &mut Figures, derivative: &[f64; PLACES]) -> Left
+pub fn accept_over(k: Head, figures: &mut Figures, derivative: &[f64; PLACES]) -> Left
     ensures { told_by result figures.new ≡ accept_call (session_of k figures.old) derivative.now }
 {
     if let Err(refusal) = test_accept(k, figures, derivative) {
@@ -719,7 +724,7 @@ fn accept_over(k: Head, figures: &mut Figures, derivative: &[f64; PLACES]) -> Le
 }
 
 #[tactic(auto, unfolding(crate::specs::Calls::drop_call, crate::specs::Tests::unless))]
-fn drop_over(k: Head, figures: &mut Figures) -> Left
+pub fn drop_over(k: Head, figures: &mut Figures) -> Left
     ensures { told_by result figures.new ≡ drop_call (session_of k figures.old) }
 {
     if let Err(refusal) = test_session(None, k, figures) {
@@ -759,7 +764,7 @@ impl Head {
         ensures { remains result figures.new ≡ lent_open
             (eqb (length figures.old) FIGURES && eqb (length absolute.now) places
             && eqb (length state.now) places && eqb (length derivative.now) places && eqb (length previous.now) places)
-            figures.old (record {
+            figures.old (open_call (record {
               scheme = scheme;
               n = n;
               time = «time»;
@@ -769,7 +774,7 @@ impl Head {
               absolute = absolute.now;
               history = history;
               previous = previous.now;
-            }) }
+            })) }
     {
         let (Some(absolute), Some(state), Some(derivative), Some(previous)) = (
             absolute.as_array(),
@@ -782,9 +787,8 @@ impl Head {
         let Some(figures) = figures.as_mut_array() else {
             return refused(no_head(), Refusal::Places);
         };
-        let k = unopened(scheme, n, history);
         open_over(
-            k, time, relative, absolute, state, derivative, previous, figures,
+            scheme, n, history, time, relative, absolute, state, derivative, previous, figures,
         )
     }
 
@@ -946,9 +950,10 @@ impl Session {
         }) }
     {
         let mut figures = [0.0; FIGURES];
-        let k = unopened(scheme, n, history);
         let left = open_over(
-            k,
+            scheme,
+            n,
+            history,
             time,
             relative,
             &absolute,

@@ -1,13 +1,9 @@
 -- `session::Head::open` meets its contract. Assumes nothing.
-use Rattle.std.proofs.Common.{◌≡◌, ap, arith, length, eq-eqb}
-use Rattle.session.specs.declared.Head.{Head}
+use Rattle.std.proofs.Common.{◌≡◌, arith, length, eq-eqb}
 use Rattle.session.specs.Figures.{FIGURES}
 use Rattle.session.proofs.Bodies.{lent-opened, lent-unopened, left_wrong, first_wrong, then_wrong}
 use Rattle.session.proofs.Head.open.Goals as goal
 use Rattle.session.proofs.Head.open.Goals.{in_default-via-in-Some+in-Some+in-Some+in_default, in_default-via-in-Some+in-Some+in_default, in_default-via-in-Some+in_default, in_default-via-in_default}
-
-pub open_over-requires : goal.open_over-requires
-open_over-requires c = (ap (λ (k : Head). k.attempt) c.unopened-k.ensures, ap (λ (k : Head). k.count) c.unopened-k.ensures)
 
 pub returns : goal.returns
 returns c =
@@ -18,8 +14,8 @@ returns c =
     let f = v.ensures''.cases in
     let g = v.ensures'''.cases in
     let long : length c.open_over.new.figures ≡ FIGURES = omega (arith, c.open_over.auto.figures, w.long) in
-    lent-opened c.unopened-k.result _ (rw (eq-eqb _ _ w.long, eq-eqb _ _ a.long, eq-eqb _ _ u.long, eq-eqb _ _ f.long, eq-eqb _ _ g.long)) _ long _
-    (rw (c.unopened-k.ensures, a.same, u.same, f.same, g.same) at c.open_over.ensures)
+    lent-opened c.open_over.result.head _ (rw (eq-eqb _ _ w.long, eq-eqb _ _ a.long, eq-eqb _ _ u.long, eq-eqb _ _ f.long, eq-eqb _ _ g.long)) _ long _
+    (rw (a.same, u.same, f.same, g.same) at c.open_over.ensures)
 
 pub returns-in_default : goal.returns-in_default
 returns-in_default c =
