@@ -1,0 +1,57 @@
+-- What the rules of a table give of its records. Assumes nothing.
+use Rattle.std.proofs.Common.{ℕ, ◌+◌, ◌*◌, ◌/◌, ◌≤◌, ◌<◌, arith, ◌≡◌, Bool, true, false, cond, ◌&&◌, List, eqb, length, ltb-true}
+use Rattle.std.proofs.Math.Bool.{false≢true}
+use Rattle.loops.specs.Loop.{every}
+use Rattle.loops.proofs.Bools.{both_true}
+use Rattle.loops.proofs.Loops.{every_at}
+use Rattle.table.specs.Table.{record_bytes, field, kind, target, first, second}
+use Rattle.table.specs.Table.{records, length_ok, target_ok, kind_ok, first_ok, second_ok, index_ok, blank_ok, coefficient_ok, record_ok, table_ok}
+
+-- ---- a record
+
+module _ (n : ℕ) (t : List ℕ) (r : ℕ) (ok : record_ok n t r ≡ true) where
+  -- all but the last two rules
+  front : (target_ok n t r && kind_ok t r && first_ok n t r && second_ok n t r) ≡ true
+  unfolding record_ok
+  front = (both_true _ (blank_ok t r) (both_true _ (coefficient_ok t r) ok).0).0
+
+  pub target_below : target t r < n
+  unfolding target_ok
+  target_below = ltb-true (target t r) n (both_true (target_ok n t r) (kind_ok t r) (both_true _ (first_ok n t r) (both_true _ (second_ok n t r) front).0).0).0
+
+  pub first_below : eqb (kind t r) 0 ≡ false → first t r < n
+  unfolding first_ok index_ok
+  first_below e =
+      let f : first_ok n t r ≡ true = (both_true (target_ok n t r && kind_ok t r) (first_ok n t r) (both_true _ (second_ok n t r) front).0).1 in
+      ltb-true (first t r) n (rw e at f)
+
+  pub second_below : eqb (kind t r) 2 ≡ true → second t r < n
+  unfolding second_ok index_ok
+  second_below e =
+      let f : second_ok n t r ≡ true = (both_true (target_ok n t r && kind_ok t r && first_ok n t r) (second_ok n t r) front).1 in
+      ltb-true (second t r) n (rw e at f)
+
+-- ---- a table
+
+-- a whole record stands in the table, and so do all of them
+pub record_fits : (t : List ℕ) (r : ℕ) → r < length t / record_bytes → record_bytes * r + record_bytes ≤ length t
+record_fits t r h = omega (arith, h)
+
+pub records_fit : (t : List ℕ) → record_bytes * (length t / record_bytes) ≤ length t
+records_fit t = omega arith
+
+pub table_records : (n : ℕ) (t : List ℕ) → table_ok n t ≡ true → every (length t / record_bytes) (record_ok n t) ≡ true
+unfolding table_ok records
+table_records n t e = go (length_ok t) e
+  where
+    go : (b : Bool) → cond b (every (length t / record_bytes) (record_ok n t)) false ≡ true → every (length t / record_bytes) (record_ok n t) ≡ true
+    go true f = f
+    go false f = absurd (false≢true f)
+
+pub table_record : (n : ℕ) (t : List ℕ) → table_ok n t ≡ true → (r : ℕ) → r < length t / record_bytes → record_ok n t r ≡ true
+table_record n t e r h = every_at (length t / record_bytes) (record_ok n t) (table_records n t e) r h
+
+-- its target, as it stands in the bytes, is below n
+pub below : (n : ℕ) (t : List ℕ) (r : ℕ) → table_ok n t ≡ true → r < length t / record_bytes → field t r 0 < n
+unfolding target
+below n t r e h = target_below n t r (table_record n t e r h)
