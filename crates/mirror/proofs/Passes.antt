@@ -1,5 +1,5 @@
 -- Mirrored passes: the same questions and the same end, mirrored, as long as the answers are. Assumes nothing.
-use Rattle.std.proofs.Common.{ℕ, zero, suc, ◌<◌, ◌≡◌, refl, subst, Bool, true, false, List, [], ◌∷◌, lit<, Float, get_or}
+use Rattle.std.proofs.Common.{ℕ, zero, suc, ◌<◌, ◌≡◌, refl, subst, Bool, List, [], ◌∷◌, lit<, Float, get_or}
 use Rattle.float.specs.Arith.{◌⊘◌}
 use Rattle.methods.specs.declared.Point.{Point}
 use Rattle.methods.specs.Numbers.{num, minus}

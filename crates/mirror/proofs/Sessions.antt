@@ -1,6 +1,5 @@
 -- Mirrored sessions: their tests, figures, steps, and the sessions that the calls make of them. Assumes nothing.
 use Rattle.std.proofs.Common.{ℕ, ◌+◌, ◌-◌, ◌≤◌, ◌<◌, arith, ◌≡◌, refl, ap, ap₂, ◌∙◌, Bool, true, false, cond, ◌&&◌, true≢false, List, eqb, pos, Float}
-use Rattle.std.proofs.Math.Bool.{false≢true}
 use Rattle.std.specs.Float.Ieee.{binary64, of_int}
 use Rattle.std.specs.Prelude.{Option, Some, None}
 use Rattle.loops.specs.Loop.{◌!◌}
