@@ -8,3 +8,4 @@ pub mod Places
 pub mod Sessions
 pub mod Calls
 pub mod Runs
+pub mod Tables

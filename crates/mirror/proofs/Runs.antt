@@ -29,7 +29,7 @@ flip_at : (b s : Bool) (x : Float) → At b s x (flip (b && s) x)
 flip_at true s x = m_flip s x
 flip_at false s x = sym (flip_false x)
 
-flipped_m : (used turned : ℕ → Bool) (x : List Float) → Placed used turned x (flipped used turned x)
+pub flipped_m : (used turned : ℕ → Bool) (x : List Float) → Placed used turned x (flipped used turned x)
 unfolding flipped
 flipped_m used turned x = record { size = sym (length-tab (length x) turn); at = λ p. go p (dec_lt p (length x)) }
   where
@@ -66,7 +66,7 @@ opening_m turned o =
     bare_m (open_m (run_m o.scheme o.time o.relative o.absolute o.history (flipped_m _ _ o.state) (flipped_m _ _ o.derivative) (flipped_m _ _ o.previous)))
 
 -- ---- what the relations say
-alike : {used turned : ℕ → Bool} {x y : List Float} → Placed used turned x y → Alike used turned x y
+pub alike : {used turned : ℕ → Bool} {x y : List Float} → Placed used turned x y → Alike used turned x y
 alike {used} {turned} {x} {y} P = record {
   size = P.size;
   in_use = λ p h e. agrees (subst (λ (b : Bool). At b (turned p) (x ! p) (y ! p)) e (P.at p));

@@ -1,3 +1,3 @@
 #![tactic(auto)]
 
-// Mirrored runs. The statement stands in specs/, its proof in proofs/; there is no code here.
+// Mirrored runs and flipped tables. The statements stand in specs/, their proofs in proofs/; there is no code here.
