@@ -76,7 +76,7 @@ unfolding rested opened
 rested_same s t e = ap (joined (run_of s)) (sym (idle_trial s t e))
 
 -- ---- drop, where nothing is wrong with the session
-dropped : (s : Session) → Good s → drop_call s ≡ tell Resting (rested s)
+pub dropped : (s : Session) → Good s → drop_call s ≡ tell Resting (rested s)
 unfolding drop_call unless
 dropped s g = let e : tested (session_tests None s) ≡ Ok tt = unfold Closed good7 admits in good_closed g None in rw e
 
@@ -93,13 +93,13 @@ shown-run old s o refused e = refl
 shown-run old s o (asking x t) e = e
 shown-run old s o (ended x d g w) e = e
 
-supply_run : (s : Session) (x o : List Float) → run_of (supply_call s x o).told.session ≡ run_of s
+pub supply_run : (s : Session) (x o : List Float) → run_of (supply_call s x o).told.session ≡ run_of s
 unfolding supply_call
 supply_run s x o =
     unless_either (tested (supply_tests s x (length o))) (refuse_lent s o) _ (λ r. run_of r.told.session ≡ run_of s) (λ j. refl)
     (λ _. shown-run s (answered s x) o (progress (answered s x)) (answered-run s x))
 
-begin_run : (s : Session) (step : Float) (w : Wish) (j o : List Float) → run_of (begin_call s step w j o).told.session ≡ run_of s
+pub begin_run : (s : Session) (step : Float) (w : Wish) (j o : List Float) → run_of (begin_call s step w j o).told.session ≡ run_of s
 unfolding begin_call
 begin_run s step w j o =
     let next = begun s step (Some w) j in
@@ -140,7 +140,7 @@ nothing_one (accept f) = told_one _ _ (nothing_then (Some Waiting) _)
 nothing_one drop = told_one _ _ (nothing-tested None)
 nothing_one (first_step largest) = told_one _ _ (nothing_then None _)
 
-same_rest : (s t : Session) → run_of s ≡ run_of t → rested s ≡ rested t
+pub same_rest : (s t : Session) → run_of s ≡ run_of t → rested s ≡ rested t
 unfolding rested
 same_rest s t e = ap opened e
 

@@ -180,7 +180,7 @@ pub enum Phase {
 
 // How many answers an attempt asks for.
 #[tactic(auto, unfolding(crate::specs::Session::wanted))]
-fn wanted(scheme: u8, n: Dimension, attempt: Option<Wish>) -> usize
+pub fn wanted(scheme: u8, n: Dimension, attempt: Option<Wish>) -> usize
     ensures { (result ≡ wanted scheme n attempt) × (result ≤ answers_kept) }
 {
     match attempt {

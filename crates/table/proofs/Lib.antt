@@ -1,1 +1,3 @@
+pub mod Known
 pub mod Records
+pub mod Sums

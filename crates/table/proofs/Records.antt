@@ -1,10 +1,11 @@
 -- What the rules of a table give of its records. Assumes nothing.
-use Rattle.std.proofs.Common.{ℕ, ◌+◌, ◌*◌, ◌/◌, ◌≤◌, ◌<◌, arith, ◌≡◌, Bool, true, false, cond, ◌&&◌, List, eqb, length, ltb-true}
-use Rattle.std.proofs.Math.Bool.{false≢true}
-use Rattle.loops.specs.Loop.{every}
+use Rattle.std.proofs.Common.{ℕ, ◌+◌, ◌*◌, ◌/◌, ◌≤◌, ◌<◌, arith, ◌≡◌, refl, sym, ap, Bool, true, false, cond, ◌&&◌, List, Float, eqb, length, lt-ltb, le-ltb, ltb-true, eq-eqb, ne_eqb}
+use Rattle.std.proofs.Math.Bool.{false≢true, and-true}
+use Rattle.loops.specs.Loop.{every, ◌!◌}
 use Rattle.loops.proofs.Bools.{both_true}
 use Rattle.loops.proofs.Loops.{every_at}
-use Rattle.table.specs.Table.{record_bytes, field, kind, target, first, second}
+use Rattle.float.specs.Arith.{◌⊗◌}
+use Rattle.table.specs.Table.{record_bytes, field, kind, target, first, second, coefficient, product, value}
 use Rattle.table.specs.Table.{records, length_ok, target_ok, kind_ok, first_ok, second_ok, index_ok, blank_ok, coefficient_ok, record_ok, table_ok}
 
 -- ---- a record
@@ -55,3 +56,51 @@ table_record n t e r h = every_at (length t / record_bytes) (record_ok n t) (tab
 pub below : (n : ℕ) (t : List ℕ) (r : ℕ) → table_ok n t ≡ true → r < length t / record_bytes → field t r 0 < n
 unfolding target
 below n t r e h = target_below n t r (table_record n t e r h)
+
+-- ---- what the code reads of a record
+
+-- one whose kind is none is not well-formed
+pub kindless : (n : ℕ) (t : List ℕ) (r : ℕ) → 4 ≤ kind t r → false ≡ record_ok n t r
+unfolding record_ok kind_ok
+kindless n t r h = rw (le-ltb (kind t r) 4 h) (past (target_ok n t r) (first_ok n t r) (second_ok n t r) (blank_ok t r) (coefficient_ok t r))
+  where
+    past : (a c d e f : Bool) → false ≡ (a && false && c && d && e && f)
+    past true c d e f = refl
+    past false c d e f = refl
+
+-- of one whose kind is one the other rules are tested
+pub tested_rules : (n : ℕ) (t : List ℕ) (r : ℕ) → kind t r < 4 → (target_ok n t r && first_ok n t r && second_ok n t r && blank_ok t r && coefficient_ok t r) ≡ record_ok n t r
+unfolding record_ok kind_ok
+tested_rules n t r h = rw (lt-ltb (kind t r) 4 h) (ap (λ (a : Bool). a && first_ok n t r && second_ok n t r && blank_ok t r && coefficient_ok t r) (sym (and-true (target_ok n t r))))
+
+module _ (n : ℕ) (t : List ℕ) (r : ℕ) (ok : record_ok n t r ≡ true) where
+  pub kind_below : kind t r < 4
+  unfolding kind_ok
+  kind_below =
+      ltb-true (kind t r) 4 (both_true (target_ok n t r) (kind_ok t r) (both_true _ (first_ok n t r) (both_true _ (second_ok n t r) (front n t r ok)).0).0).1
+
+  -- the components that it reads are below n
+  pub first_read : {m : ℕ} → m ≡ kind t r → 0 < m → {j : ℕ} → j ≡ first t r → j < n
+  first_read e h f = rw f (first_below n t r ok (ne_eqb (kind t r) 0 (λ z. omega (arith, e, h, z))))
+
+  pub second_read : 2 ≡ kind t r → {k : ℕ} → k ≡ second t r → k < n
+  second_read e f = rw f (second_below n t r ok (eq-eqb (kind t r) 2 (sym e)))
+
+-- its value, kind by kind
+module _ (t : List ℕ) (r : ℕ) (time : Float) (u : List Float) {c : Float} (given : c ≡ coefficient t r) where
+  pub value_constant : 0 ≡ kind t r → c ≡ value t time u r
+  unfolding value product
+  value_constant e = rw (← e, ← given)
+
+  module _ {j : ℕ} (f : j ≡ first t r) where
+    pub value_linear : 1 ≡ kind t r → c ⊗ u ! j ≡ value t time u r
+    unfolding value product
+    value_linear e = rw (← e, ← given, ← f)
+
+    pub value_product : 2 ≡ kind t r → {k : ℕ} → k ≡ second t r → c ⊗ u ! j ⊗ u ! k ≡ value t time u r
+    unfolding value product
+    value_product e g = rw (← e, ← given, ← f, ← g)
+
+    pub value_timed : 3 ≡ kind t r → c ⊗ u ! j ⊗ time ≡ value t time u r
+    unfolding value product
+    value_timed e = rw (← e, ← given, ← f)

@@ -1,1 +1,4 @@
 pub mod Table
+pub mod Kind
+pub mod Whole
+pub mod Claims

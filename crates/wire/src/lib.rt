@@ -1,7 +1,7 @@
 // Numbers and doubles as little-endian bytes, taken from a reader and given to a writer.
 #![tactic(auto)]
 
-ghost use Rattle.std.specs.Prelude.{◌≡◌, ◌*◌, [], ◌∷◌, length, IfOk, OnOk};
+ghost use Rattle.std.specs.Prelude.{◌≡◌, ◌+◌, ◌*◌, ◌≤◌, [], ◌∷◌, length, IfOk, OnOk};
 ghost use Rattle.std.specs.Float.{binary64};
 ghost use Rattle.std.specs.Float.Ieee.{of_bits, to_bits};
 ghost use Rattle.std.specs.Io.KnownBytes.{Appends};
@@ -36,6 +36,14 @@ pub fn get_f64<R: Read>(input: &mut R) -> io::Result<f64>
     let mut b = [0u8; 8];
     input.read_exact(&mut b)?;
     Ok(f64_from_bits_with_nan(u64::from_le_bytes(b)))
+}
+
+// The double that begins at place i; every NaN's pattern is a NaN.
+pub fn f64_at(b: &[u8], i: usize) -> f64
+    requires { i + 8 ≤ length b.now }
+    ensures { result ≡ of_bits binary64 (word64 b.now i) }
+{
+    f64_from_bits_with_nan(u64::from_le_bytes(*b[i..i + 8].as_array().unwrap()))
 }
 
 // As many doubles as x has places, one after another.
