@@ -44,6 +44,12 @@ impl<'a> Reader<'a> {
         self.take().map(f64::from_le_bytes)
     }
 
+    pub fn bytes(&mut self, count: usize) -> Option<&'a [u8]> {
+        let (head, rest) = self.rest.split_at_checked(count)?;
+        self.rest = rest;
+        Some(head)
+    }
+
     pub fn doubles(&mut self, count: usize) -> Option<Vec<f64>> {
         (0..count).map(|_| self.double()).collect()
     }

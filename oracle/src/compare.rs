@@ -6,21 +6,26 @@ use crate::random_script::{damaged, random_script};
 use crate::script::{Script, Tally};
 use std::io::{self, IsTerminal, Write};
 use std::path::Path;
-use std::process::{Command, Stdio};
+use std::process::{Command, ExitStatus, Stdio};
 
 /// Calls per script.
 const CALLS: usize = 1000;
 
 /// Feeds a script to the program and gives what it writes.
 pub fn replies_of(program: &Path, script: &[u8]) -> io::Result<Vec<u8>> {
+    outcome_of(program, script).map(|(replies, _)| replies)
+}
+
+/// Feeds these bytes to the program and gives what it writes, and how it ended.
+pub fn outcome_of(program: &Path, bytes: &[u8]) -> io::Result<(Vec<u8>, ExitStatus)> {
     let mut child = Command::new(program).stdin(Stdio::piped()).stdout(Stdio::piped()).spawn()?;
     let mut input = child.stdin.take().expect("it is piped");
-    let script = script.to_vec();
+    let bytes = bytes.to_vec();
     // A program that stops reading is judged by what it wrote.
-    let feeder = std::thread::spawn(move || drop(input.write_all(&script)));
+    let feeder = std::thread::spawn(move || drop(input.write_all(&bytes)));
     let output = child.wait_with_output()?;
     let _ = feeder.join();
-    Ok(output.stdout)
+    Ok((output.stdout, output.status))
 }
 
 /// Where two replies part: the call's number from 0, what it is, and the place in its reply.

@@ -19,9 +19,12 @@ pub const ERROR_NORM: u8 = 8;
 pub const SHOW: u8 = 9;
 pub const LOAD: u8 = 10;
 pub const BRING_OVER: u8 = 11;
+pub const WHOLE_STEP: u8 = 12;
 
 /// The most entries, inputs or lent places of a call.
 const MOST: usize = 512;
+/// The most bytes of table of a call.
+const MOST_TABLE: usize = 8192;
 /// What each lent place holds before a call.
 pub const BEFORE: f64 = -1.5;
 
@@ -46,6 +49,7 @@ pub enum Call {
     Show,
     Load(Box<Session>),
     BringOver(Box<OldSession>),
+    WholeStep { step: f64, table: Vec<u8> },
 }
 
 /// The console's session between calls.
@@ -86,6 +90,7 @@ impl Console {
             Call::Accept { derivative } => session.accept(derivative),
             Call::Drop => session.drop_attempt(),
             Call::FirstStep { largest } => session.first_step(*largest),
+            Call::WholeStep { step, table } => session.whole_step(*step, table),
             Call::Exponential { size, entries, .. } => (bare_exponential(*size, entries, &mut lent), session),
             Call::PhiAction { n, order, scale_a, matrix, input, .. } => {
                 let answer = bare_phi_action(*n, *order, *scale_a, matrix, input, &mut lent);
@@ -184,6 +189,14 @@ pub fn read_call(reader: &mut Reader) -> Option<Call> {
         SHOW => Call::Show,
         LOAD => Call::Load(Box::new(read_image(reader)?)),
         BRING_OVER => Call::BringOver(Box::new(OldSession::read(reader)?)),
+        WHOLE_STEP => {
+            let step = reader.double()?;
+            let bytes = usize::from(reader.short()?);
+            if bytes > MOST_TABLE {
+                return None;
+            }
+            Call::WholeStep { step, table: reader.bytes(bytes)?.to_vec() }
+        }
         _ => return None,
     })
 }
@@ -328,6 +341,12 @@ pub fn put_call(out: &mut Vec<u8>, call: &Call) {
         Call::BringOver(image) => {
             out.push(BRING_OVER);
             image.put(out);
+        }
+        Call::WholeStep { step, table } => {
+            out.push(WHOLE_STEP);
+            put_double(out, *step);
+            put_length(out, table.len());
+            out.extend(table);
         }
     }
 }

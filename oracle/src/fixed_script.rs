@@ -1,10 +1,11 @@
 //! The fixed script: every op, every refusal number on the session and on what is handed in, the order of the
 //! checks, every scheme with a Jacobian supplied and differenced and as stiff as can be, the examples of document 01,
-//! tolerances that differ and old sessions. The list adds random calls to it, so that the gate replays them too.
+//! tolerances that differ, old sessions and whole steps. The list adds random calls to it, so that the gate replays them too.
 
 use crate::bits::power_of_two;
 use crate::console::Call;
 use crate::field::Field;
+use crate::fixed_steps::whole_steps;
 use crate::lists::List;
 use crate::model::{Answer, Attempt, Matrix, Opening, PLACES, Session, Vector};
 use crate::old_session::OldSession;
@@ -53,11 +54,12 @@ pub fn fixed_script() -> Script {
     tolerances_that_differ(&mut script);
     tolerances_refused(&mut script);
     old_sessions(&mut script);
+    whole_steps(&mut script);
     script.call(&Call::Show);
     script
 }
 
-fn vector(values: &[f64]) -> Vector {
+pub(crate) fn vector(values: &[f64]) -> Vector {
     let mut vector = [0.0; PLACES];
     vector[..values.len()].copy_from_slice(values);
     vector
@@ -70,7 +72,7 @@ fn matrix(values: &[f64]) -> Box<Matrix> {
 }
 
 /// n = 1, tolerances 1 and 1, time 0.
-fn opening(scheme: usize, state: f64, derivative: f64) -> Opening {
+pub(crate) fn opening(scheme: usize, state: f64, derivative: f64) -> Opening {
     Opening {
         scheme: scheme as u8,
         n: 1,
@@ -88,7 +90,7 @@ fn begin(step: f64, jacobian: f64) -> Call {
     Call::Begin { supplied: true, step, jacobian: matrix(&[jacobian]), lent: 1 }
 }
 
-fn difference(step: f64, n: usize) -> Call {
+pub(crate) fn difference(step: f64, n: usize) -> Call {
     Call::Begin { supplied: false, step, jacobian: matrix(&[]), lent: n }
 }
 
@@ -209,6 +211,7 @@ fn calls_on_a_session() -> Vec<Call> {
         Call::Accept { derivative: wrong },
         Call::Drop,
         Call::FirstStep { largest: f64::NAN },
+        Call::WholeStep { step: 0.0, table: vec![0; 15] },
     ]
 }
 
@@ -230,7 +233,7 @@ fn checks_on_the_session(script: &mut Script) {
             if sound >= 3 {
                 // The right phase.
                 session = match call {
-                    Call::Begin { .. } => resting(),
+                    Call::Begin { .. } | Call::WholeStep { .. } => resting(),
                     Call::Accept { .. } => in_attempt(1),
                     _ => in_attempt(0),
                 };
@@ -252,12 +255,12 @@ fn checks_on_the_session(script: &mut Script) {
     every_condition_of_1_and_2(script);
 }
 
-fn resting() -> Session {
+pub(crate) fn resting() -> Session {
     Session::open(&opening(2, 1.0, 2.0)).1
 }
 
 /// Etdrk2 with so many answers of its one.
-fn in_attempt(count: usize) -> Session {
+pub(crate) fn in_attempt(count: usize) -> Session {
     let mut session = resting();
     session.attempt = Attempt::Supplied;
     session.step = 0.5;
@@ -557,7 +560,7 @@ fn bytes_that_count_as_others(script: &mut Script) {
 const DIFFERENT: [f64; 3] = [1e-3, 0.25, 3e4];
 
 /// Exprb32 in three components, each with its own tolerance.
-fn opening_of_three() -> Opening {
+pub(crate) fn opening_of_three() -> Opening {
     Opening {
         n: 3,
         absolute: vector(&DIFFERENT),

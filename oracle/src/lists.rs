@@ -1,6 +1,6 @@
 //! The fixed lists: what goes into a program of the port, and what must come out of it.
 
-use crate::{fixed_script, float_list, matrix_list, pass_list};
+use crate::{fixed_script, float_list, matrix_list, pass_list, sonde};
 use std::io;
 use std::path::Path;
 
@@ -13,7 +13,7 @@ pub struct List {
 }
 
 pub fn all() -> Vec<List> {
-    vec![float_list::list(), matrix_list::list(), pass_list::list(), fixed_script::list()]
+    vec![float_list::list(), matrix_list::list(), pass_list::list(), fixed_script::list(), sonde::list()]
 }
 
 /// The lists of these names, in their own order; all of them if none is named.

@@ -4,6 +4,7 @@
 //! session that follows; a refused call hands back the one it was given and leaves the lent output alone.
 
 use crate::pass::{self, ETD2, Outcome, QUESTIONS, Start, all_finite};
+use crate::table::Table;
 use crate::tolerances::Tolerances;
 use crate::watch::{self, Exponential};
 use crate::{OdeProblem, SolveError, SolverStats, compared};
@@ -412,6 +413,40 @@ impl Session {
             0 => (Answer::Resting, self.at_rest()),
             number => (Answer::Refused(number), self),
         }
+    }
+
+    /// A whole step with no host between: the Jacobian differenced, every question answered by the table, and the candidate
+    /// accepted whatever its error norm.
+    pub fn whole_step(self, step: f64, table: &[u8]) -> (Answer, Self) {
+        let on_session = self.refusal(|session| !session.is_resting());
+        if on_session != 0 {
+            return (Answer::Refused(on_session), self);
+        }
+        let Some(table) = Table::read(table, self.n()) else {
+            return (Answer::Refused(8), self);
+        };
+        match self.clone().step_by_table(step, &table) {
+            (Answer::Resting, next, _) => (Answer::Resting, next),
+            (refused, ..) => (refused, self),
+        }
+    }
+
+    /// Begin, supply and accept as the table answers, up to the first refusal: the last call's answer, the session after
+    /// it, and how many calls came before it. The session is sound and at rest.
+    pub fn step_by_table(self, step: f64, table: &Table) -> (Answer, Self, usize) {
+        let mut asked = vec![0.0; self.n()];
+        let (mut answer, mut session) = self.begin(false, step, &[0.0; PLACES * PLACES], &mut asked);
+        let mut calls = 0;
+        while let Answer::Ask { time } = answer {
+            (answer, session) = session.supply(&table.derivative(time, &asked), &mut asked);
+            calls += 1;
+        }
+        if let Answer::Ready { .. } = answer {
+            let time = session.time + session.step;
+            (answer, session) = session.accept(&table.derivative(time, &asked));
+            calls += 1;
+        }
+        (answer, session, calls)
     }
 
     pub fn first_step(self, largest: f64) -> (Answer, Self) {

@@ -3,13 +3,15 @@
 
 use crate::bits::power_of_two;
 use crate::bytes::Reader;
-use crate::console::{BRING_OVER, Call, SUPPLY, read_call};
+use crate::console::{Call, SHOW, SUPPLY, WHOLE_STEP, read_call};
 use crate::field::Field;
 use crate::model::{ANSWERS, Answer, Attempt, Matrix, Opening, PLACES, Session, Vector};
 use crate::old_session::OldSession;
 use crate::pass::{ETD2, QUESTIONS};
 use crate::random::Random;
+use crate::random_table::{self, Overflow};
 use crate::script::Script;
+use crate::table::{RULES, Table, bytes_of};
 use crate::tolerances::alike;
 
 /// A script of about so many calls.
@@ -52,10 +54,18 @@ pub fn damaged(script: &[u8], seed: u64) -> Vec<u8> {
             *byte = random.pick(&[0, 1, 2, 3, 16, 17, 20, 21, 128, 255]);
         }
     }
-    match random.below(3) {
+    match random.below(4) {
         0 => bytes.truncate(random.below(bytes.len())),
-        1 => bytes.extend([random.pick(&[BRING_OVER + 1, BRING_OVER + 2, 200, 255]), 4, 4, 9]),
-        _ => bytes.extend([&[SUPPLY][..], &[0; PLACES * 8], &[1, 2], &[9]].concat()),
+        1 => bytes.extend([random.pick(&[WHOLE_STEP + 1, WHOLE_STEP + 2, 200, 255]), 4, 4, SHOW]),
+        2 => bytes.extend([&[SUPPLY][..], &[0; PLACES * 8], &[1, 2], &[SHOW]].concat()),
+        _ => {
+            let length = random.pick(&[8193, 8208, u16::MAX]);
+            bytes.push(WHOLE_STEP);
+            bytes.extend([0; 8]);
+            bytes.extend(length.to_le_bytes());
+            bytes.extend(vec![0; usize::from(length)]);
+            bytes.push(SHOW);
+        }
     }
     bytes
 }
@@ -86,6 +96,8 @@ struct Host {
     random: Random,
     script: Script,
     field: Field,
+    /// The right-hand side in place of the field, and of its dimension.
+    table: Option<Vec<u8>>,
     /// What was asked last, or the candidate with its time.
     shown: Option<(f64, Vec<f64>)>,
     /// The number by which the last call was refused, or 0.
@@ -96,7 +108,7 @@ impl Host {
     fn new(script: Script, seed: u64) -> Self {
         let mut random = Random::new(seed);
         let field = Field::new(1, 1.0, &mut random);
-        Self { random, script, field, shown: None, refused: 0 }
+        Self { random, script, field, table: None, shown: None, refused: 0 }
     }
 
     fn session(&self) -> &Session {
@@ -137,7 +149,8 @@ impl Host {
                 self.call(Call::FirstStep { largest });
             }
             17..=18 => self.call(Call::Drop),
-            19..=26 => self.err(),
+            19..=27 => self.err(),
+            28 => self.overflow(),
             _ => self.forward(),
         }
     }
@@ -163,8 +176,12 @@ impl Host {
         let questions = columns + QUESTIONS[usize::from(self.session().scheme)];
         let answered = usize::from(self.session().count);
         if attempt == Attempt::None {
-            let begin = self.begin();
-            self.call(begin);
+            let own = self.table.clone().filter(|_| self.field.dimension() == self.n());
+            let call = match own {
+                Some(table) if !self.random.chance(6) => Call::WholeStep { step: self.step(), table },
+                _ => self.begin(),
+            };
+            self.call(call);
         } else if answered < questions {
             let answer = self.derivative();
             self.call(Call::Supply { answer, lent: self.n() });
@@ -182,13 +199,13 @@ impl Host {
         let scheme = if random.chance(6) { ETD2 } else { random.below(16) };
         let stiffness = random.pick(&[0.0, 1.0, 1.0, 30.0, 1e3, 1e5, 1e8, 1e12]);
         self.field = Field::new(n, stiffness, random);
+        self.table = random.chance(4).then(|| bytes_of(&random_table::well_formed(n, random)));
         let time = random.pick(&[0.0, 1.0, -3.5, 1e3]);
         let size = random.pick(&[1.0, 1.0, 1.0, 1.0, 1.0, 1e-3, 1e3, 1e3, 1e-308, 1e306]);
         let state = self.vector(n, size);
         let held = scheme == ETD2 && self.random.chance(2);
         let history = if held { self.vector(n, size) } else { [0.0; PLACES] };
-        let mut derivative = [0.0; PLACES];
-        derivative[..n].copy_from_slice(&self.field.at(time, &state[..n]));
+        let derivative = self.right_hand_side(time, &state[..n]);
         Opening {
             scheme: scheme as u8,
             n: n as u8,
@@ -200,6 +217,16 @@ impl Host {
             derivative,
             history,
         }
+    }
+
+    /// By the table if there is one, otherwise by the field.
+    fn right_hand_side(&self, time: f64, state: &[f64]) -> Vector {
+        if let Some(table) = self.table.as_ref().and_then(|bytes| Table::read(bytes, state.len())) {
+            return table.derivative(time, state);
+        }
+        let mut derivative = [0.0; PLACES];
+        derivative[..state.len()].copy_from_slice(&self.field.at(time, state));
+        derivative
     }
 
     /// All equal, or all but one, or each its own.
@@ -289,20 +316,18 @@ impl Host {
     /// The derivative at what was shown last; now and then a number that has nothing to do with it.
     fn derivative(&mut self) -> Vector {
         let n = self.n();
-        let mut derivative = [0.0; PLACES];
         let fits = |shown: &&(f64, Vec<f64>)| shown.1.len() == n;
         match self.shown.as_ref().filter(fits) {
             Some((time, state)) if self.field.dimension() == n && !self.random.chance(10) => {
-                derivative[..n].copy_from_slice(&self.field.at(*time, state));
                 self.script.tally.note("answers of a smooth right-hand side");
+                self.right_hand_side(*time, state)
             }
             _ => {
                 self.script.tally.note("answers out of the air");
                 let size = self.random.pick(&[1.0, 1e3, 1e10, 1e305]);
-                derivative = self.vector(n, size);
+                self.vector(n, size)
             }
         }
-        derivative
     }
 
     fn vector(&mut self, n: usize, size: f64) -> Vector {
@@ -351,7 +376,7 @@ impl Host {
     /// A call out of turn, or with something wrong in what it hands in.
     fn err(&mut self) {
         let n = self.n();
-        let call = match self.random.below(4) {
+        let call = match self.random.below(5) {
             0 => {
                 let Call::Begin { mut supplied, mut step, mut jacobian, .. } = self.begin() else {
                     unreachable!()
@@ -372,15 +397,55 @@ impl Host {
                 }
                 Call::Supply { answer, lent: self.lent(n) }
             }
-            _ => {
+            3 => {
                 let mut derivative = self.derivative();
                 if self.random.chance(2) {
                     self.damage(&mut derivative);
                 }
                 Call::Accept { derivative }
             }
+            _ => self.odd_whole_step(),
         };
         self.call(call);
+    }
+
+    /// A whole step out of turn, or with a rule of the table broken, huge coefficients or an odd step.
+    fn odd_whole_step(&mut self) -> Call {
+        let n = self.n();
+        let broken = |random: &mut Random| random_table::broken(random.below(RULES.len()), n, random);
+        let mut step = self.step();
+        let table = match self.random.below(6) {
+            0 | 1 => broken(&mut self.random),
+            2 => {
+                step = self.odd();
+                broken(&mut self.random)
+            }
+            3 => {
+                step = self.odd();
+                bytes_of(&random_table::well_formed(n, &mut self.random))
+            }
+            4 => bytes_of(&random_table::huge(n, &mut self.random)),
+            _ => bytes_of(&random_table::well_formed(n, &mut self.random)),
+        };
+        Call::WholeStep { step, table }
+    }
+
+    /// Whole steps on which something overflows late.
+    fn overflow(&mut self) {
+        let mut opening = self.opening();
+        let n = usize::from(opening.n);
+        let Overflow { time, step, state, records } = random_table::overflow(n, &mut self.random);
+        let table = bytes_of(&records);
+        self.table = Some(table.clone());
+        opening.time = time;
+        opening.state[..n].copy_from_slice(&state);
+        opening.derivative = self.right_hand_side(time, &state);
+        opening.history[..n].fill(0.0);
+        self.call(Call::Open(opening));
+        for _ in 0..=self.random.below(2) {
+            self.call(Call::WholeStep { step, table: table.clone() });
+            self.call(Call::Show);
+        }
     }
 
     /// Loads a session that no call made, or brings an old one over, and makes a few calls with it.
@@ -405,6 +470,10 @@ impl Host {
                     self.call(Call::FirstStep { largest });
                 }
                 2 | 3 => self.err(),
+                4 => {
+                    let call = self.odd_whole_step();
+                    self.call(call);
+                }
                 _ => self.forward(),
             }
         }

@@ -4,13 +4,16 @@ use crate::bits::power_of_two;
 use crate::bytes::Reader;
 use crate::console::{Call, Console, Told, put_call, read_call};
 use crate::model::{Answer, Attempt, Opening, PLACES, Session, Vector};
-use crate::pass::ESTIMATING;
+use crate::pass::{ESTIMATING, QUESTIONS};
+use crate::table::{Table, broken_rules};
 use crate::tolerances::{Tolerances, is_bad};
 use std::collections::BTreeMap;
 
 /// Counts under a heading each.
 type Counts = BTreeMap<(&'static str, String), usize>;
 
+pub const TABLES_REFUSED: &str = "tables refused for one rule";
+pub const STEPS_REFUSED: &str = "whole steps refused on the way";
 pub const PRODUCTS: &str = "products of a ready";
 pub const TERMS: &str = "terms of a filled";
 pub const SQUARINGS: &str = "squarings of a filled";
@@ -19,10 +22,12 @@ pub const SQUARINGS: &str = "squarings of a filled";
 #[derive(Clone, Debug, Default, Eq, PartialEq)]
 pub struct Tally {
     pub outcomes: Counts,
-    /// What was seen of tolerances, and of sessions brought over.
+    /// What was seen of tolerances, of sessions brought over, and of whole steps and tables refused.
     pub seen: Counts,
     /// The schemes that came to a candidate, by whether the Jacobian was supplied or differenced.
     pub ready: BTreeMap<(u8, bool), usize>,
+    /// The whole steps that were taken, by scheme.
+    pub stepped: BTreeMap<u8, usize>,
     /// The dimensions in which a candidate was come to.
     pub dimensions: BTreeMap<u8, usize>,
     /// What else the scripts hold, by name.
@@ -55,6 +60,7 @@ impl Tally {
         add(&mut self.outcomes, &other.outcomes);
         add(&mut self.seen, &other.seen);
         add(&mut self.ready, &other.ready);
+        add(&mut self.stepped, &other.stepped);
         add(&mut self.dimensions, &other.dimensions);
         add(&mut self.kinds, &other.kinds);
         for (count, number) in &other.largest {
@@ -91,6 +97,13 @@ impl Tally {
              at least {} in each dimension\n",
             least(&schemes),
             least(&dimensions)
+        );
+        let steps: Vec<usize> =
+            (0..16).map(|scheme| self.stepped.get(&scheme).copied().unwrap_or(0)).collect();
+        text += &format!(
+            "  whole steps taken: {}; at least {} by each scheme\n",
+            steps.iter().sum::<usize>(),
+            least(&steps)
         );
         for (count, number) in &self.largest {
             text += &format!("  most {count}: {number}\n");
@@ -132,6 +145,7 @@ impl Script {
         let told = self.console.call(call, &mut self.replies);
         self.note_tolerances(call, &before, told.answer);
         self.note_bringing_over(call, told.answer);
+        self.note_whole_step(call, &before, told.answer);
         match told.answer {
             Some(Answer::Ready { products, .. }) => {
                 self.tally.reach(PRODUCTS, products);
@@ -147,11 +161,12 @@ impl Script {
             Some(Answer::Refused(number @ 1..=5)) if takes_a_session(call) => {
                 // Drop tests the session alone.
                 let by_session = before.drop_attempt().0 == Answer::Refused(number);
-                self.tally.note(if by_session {
-                    ON_SESSION[usize::from(number)]
-                } else {
-                    HANDED_IN[usize::from(number)]
-                });
+                let by_derivative = number == 3 && matches!(call, Call::WholeStep { .. });
+                if by_session {
+                    self.tally.note(ON_SESSION[usize::from(number)]);
+                } else if !by_derivative {
+                    self.tally.note(HANDED_IN[usize::from(number)]);
+                }
             }
             Some(Answer::Refused(number @ 1..=5)) => self.tally.note(HANDED_IN[usize::from(number)]),
             _ => {}
@@ -229,6 +244,38 @@ impl Script {
         }
     }
 
+    /// Whole steps taken by scheme; of those refused, how far they came, and the rule of a table that breaks just one.
+    fn note_whole_step(&mut self, call: &Call, before: &Session, answer: Option<Answer>) {
+        let Call::WholeStep { step, table } = call else { return };
+        match answer {
+            Some(Answer::Resting) => *self.tally.stepped.entry(before.scheme).or_default() += 1,
+            Some(Answer::Refused(8)) => {
+                if let [rule] = broken_rules(table, before.n)[..] {
+                    self.tally.see(TABLES_REFUSED, rule);
+                }
+            }
+            Some(Answer::Refused(number @ (3 | 6))) if before.clone().drop_attempt().0 == Answer::Resting => {
+                let table = Table::read(table, usize::from(before.n)).expect("8 comes before");
+                let (_, _, calls) = before.clone().step_by_table(*step, &table);
+                let columns = usize::from(before.n);
+                let questions = columns + QUESTIONS[usize::from(before.scheme)];
+                let place = if calls == 0 {
+                    "before any answer"
+                } else if calls <= columns {
+                    "on a column's answer"
+                } else if calls <= questions {
+                    "on a stage's answer"
+                } else if (before.time + step).is_finite() {
+                    "at the candidate"
+                } else {
+                    "at a new time not finite"
+                };
+                self.tally.see(STEPS_REFUSED, format!("by {number} {place}"));
+            }
+            _ => {}
+        }
+    }
+
     /// Calls with a word that is finite and above 2^1000.
     fn note_what_is_handed_in(&mut self, call: &Call) {
         let huge = |values: &[f64]| values.iter().any(|x| x.is_finite() && x.abs() > power_of_two(1000));
@@ -237,6 +284,7 @@ impl Script {
             Call::Begin { step, jacobian, .. } => huge(&[*step]) || huge(&jacobian[..]),
             Call::Supply { answer, .. } => huge(answer),
             Call::Accept { derivative } => huge(derivative),
+            Call::WholeStep { step, .. } => huge(&[*step]),
             Call::Exponential { entries, .. } => huge(entries),
             Call::PhiAction { scale_a, matrix, input, .. } => {
                 huge(&[*scale_a]) || huge(matrix) || huge(input)
@@ -341,7 +389,12 @@ fn settled_by_tolerances(call: &Call, answer: &Answer, scheme: u8) -> Option<&'s
 fn takes_a_session(call: &Call) -> bool {
     matches!(
         call,
-        Call::Begin { .. } | Call::Supply { .. } | Call::Accept { .. } | Call::Drop | Call::FirstStep { .. }
+        Call::Begin { .. }
+            | Call::Supply { .. }
+            | Call::Accept { .. }
+            | Call::Drop
+            | Call::FirstStep { .. }
+            | Call::WholeStep { .. }
     )
 }
 
@@ -359,5 +412,6 @@ fn name(call: &Call) -> &'static str {
         Call::Show => "show",
         Call::Load(_) => "load",
         Call::BringOver(_) => "bring over",
+        Call::WholeStep { .. } => "whole step",
     }
 }

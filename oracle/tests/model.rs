@@ -3,7 +3,7 @@
 use oracle::bits::{pattern, same};
 use oracle::bytes::Reader;
 use oracle::compare::first_difference;
-use oracle::console::{self, BEFORE, BRING_OVER, Call, Console, NUMBERS, put_call, put_image, read_call};
+use oracle::console::{self, BEFORE, Call, Console, NUMBERS, WHOLE_STEP, put_call, put_image, read_call};
 use oracle::field::Field;
 use oracle::fixed_script::fixed_script;
 use oracle::model::{Answer, Attempt, Opening, PLACES, Session, Vector, bare_exponential, bare_phi_action};
@@ -11,7 +11,8 @@ use oracle::pass::ETD2;
 use oracle::random::Random;
 use oracle::random_script::{damaged, random_script};
 use oracle::refused::{self, Kind};
-use oracle::script::{PRODUCTS, SQUARINGS, Script, TERMS, Tally};
+use oracle::script::{PRODUCTS, SQUARINGS, STEPS_REFUSED, Script, TABLES_REFUSED, TERMS, Tally};
+use oracle::table::{RULES, Record, Table, bytes_of};
 use oracle::tolerances::alike;
 use oracle::{OdeProblem, SolveOptions, SolverStats, compared, published, watch};
 
@@ -129,7 +130,7 @@ fn a_refused_call_changes_nothing() {
             let before = image(&console.session);
             let told = console.call(&call, &mut Vec::new());
             if let Some(Answer::Refused(number)) = told.answer {
-                assert!((1..=7).contains(&number));
+                assert!((1..=8).contains(&number));
                 assert!(told.lent.iter().all(|place| *place == BEFORE));
                 let after = image(&console.session);
                 let blank = image(&Session::blank());
@@ -158,6 +159,7 @@ fn the_fixed_script_covers_every_op_and_refusal() {
         ("accept", &[1, 2, 3, 4, 5, 6, 7]),
         ("drop", &[1, 2, 3, 4, 5]),
         ("first step", &[1, 2, 3, 4, 5]),
+        ("whole step", &[1, 2, 3, 4, 5, 6, 7, 8]),
         ("bare exponential", &[1, 3, 6]),
         ("bare phi action", &[1, 3, 6]),
         ("bare error norm", &[1, 3, 4]),
@@ -181,11 +183,13 @@ fn the_fixed_script_covers_every_op_and_refusal() {
         ("show", "done"),
         ("load", "done"),
         ("bring over", "done"),
+        ("whole step", "resting"),
     ] {
         seen(op, outcome);
     }
     every_kind_of_tolerance_was_seen(&script.tally, 1);
     every_kind_of_old_session_was_seen(&script.tally, &[1, 2, 3, 4, 5], 1);
+    every_kind_of_whole_step_was_seen(&script.tally, 1);
     let largest = |count: &str| script.tally.largest[count];
     assert_eq!((largest(PRODUCTS), largest(TERMS), largest(SQUARINGS)), (1583, 15, 32));
     for scheme in 0..16 {
@@ -224,6 +228,7 @@ fn the_random_scripts_cover_what_a_host_can_do() {
         ("accept", &[1, 2, 3, 4, 5, 6, 7]),
         ("drop", &[1, 2, 3, 4, 5]),
         ("first step", &[1, 2, 3, 4, 5]),
+        ("whole step", &[1, 2, 3, 4, 5, 6, 7, 8]),
         ("bare exponential", &[1, 3, 6]),
         ("bare phi action", &[1, 3, 6]),
         ("bare error norm", &[1, 3, 4]),
@@ -247,6 +252,8 @@ fn the_random_scripts_cover_what_a_host_can_do() {
     assert!(tally.outcomes[&("load", "done".into())] > 50);
     every_kind_of_tolerance_was_seen(&tally, 5);
     every_kind_of_old_session_was_seen(&tally, &[1, 2, 3, 4, 5, 6, 7], 5);
+    every_kind_of_whole_step_was_seen(&tally, 5);
+    assert!((0..16).all(|scheme| tally.stepped[&scheme] > 50));
     for (holder, figure) in [
         ("tolerances of open", "opened"),
         ("tolerances of a session", "norm"),
@@ -292,6 +299,28 @@ fn every_kind_of_old_session_was_seen(tally: &Tally, refusals: &[u8], least: usi
     seen_often(tally, OLD, "accepted in the attempt they came with", least);
     for number in refusals {
         seen_often(tally, OLD, &format!("refused by {number}"), least);
+    }
+}
+
+/// Taken by every scheme, refused for each rule by itself, and on the way in every place.
+fn every_kind_of_whole_step_was_seen(tally: &Tally, least: usize) {
+    for scheme in 0..16 {
+        assert!(tally.stepped.get(&scheme).is_some_and(|count| *count >= least), "scheme {scheme}");
+    }
+    for rule in RULES {
+        seen_often(tally, TABLES_REFUSED, rule, least);
+    }
+    for place in [
+        "by 3 on a column's answer",
+        "by 3 on a stage's answer",
+        "by 3 at the candidate",
+        "by 3 at a new time not finite",
+        "by 6 before any answer",
+        "by 6 on a column's answer",
+        "by 6 on a stage's answer",
+        "by 6 at a new time not finite",
+    ] {
+        seen_often(tally, STEPS_REFUSED, place, least);
     }
 }
 
@@ -681,9 +710,185 @@ fn a_script_ends_where_the_page_says() {
     assert_eq!(reply.len(), 22);
     let too_many = [&[6, 1, 1, 2, 1, 0][..], &[0; 513 * 8]].concat();
     let too_long = [&[2][..], &[0; PLACES * 8], &[1, 2]].concat();
-    let ends: [&[u8]; 5] = [&[BRING_OVER + 1], &[255], &[5, 0, 0], &too_many, &too_long];
+    let table = |length: u16, bytes: usize| {
+        [&[WHOLE_STEP, 0, 0, 0, 0, 0, 0, 0xe0, 0x3f][..], &length.to_le_bytes(), &vec![0; bytes]].concat()
+    };
+    // Of the table's bytes one is missing, or there are more than may be.
+    let (cut, wide) = (table(32, 31), table(8193, 8193));
+    let ends: [&[u8]; 5] = [&[WHOLE_STEP + 1], &[255], &[5, 0, 0], &too_many, &too_long];
+    assert_eq!(console::run(&cut), []);
+    assert_eq!(console::run(&[&good[..], &cut].concat()), reply);
+    assert_eq!(console::run(&[&good[..], &cut[..9]].concat()), reply);
+    assert_eq!(console::run(&[&good[..], &wide, &good].concat()), reply);
+    assert_eq!(console::run(&[&good[..], &table(8192, 8192), &good].concat()).len(), 3 * reply.len());
     for end in ends {
         let script = [&good[..], end, &good].concat();
         assert_eq!(console::run(&script), reply);
     }
+}
+
+/// u' = 2 from 1 over a step of 1, then over one of -0.5.
+#[test]
+fn small_whole_steps_are_as_worked_by_hand() {
+    let table = bytes_of(&[Record::constant(0, 2.0)]);
+    for scheme in [0, 1, ETD2 as u8] {
+        let (answer, one) = open(scheme, 0.0, 1.0, 2.0).whole_step(1.0, &table);
+        assert_eq!((answer, one.time, one.state[0], one.derivative[0]), (Answer::Resting, 1.0, 3.0, 2.0));
+        let (answer, two) = one.whole_step(-0.5, &table);
+        assert_eq!((answer, two.time, two.state[0], two.derivative[0]), (Answer::Resting, 0.5, 2.0, 2.0));
+        let held = usize::from(scheme) == ETD2;
+        assert_eq!((two.history_held, two.history[0]), (held, if held { 2.0 } else { 0.0 }));
+    }
+}
+
+/// Three whole steps, and three of the published kernel with the table as its right-hand side.
+#[test]
+fn a_whole_step_is_the_published_kernels() {
+    let mut random = Random::new(61);
+    for scheme in 0..16u8 {
+        for n in [1, 3, 6] {
+            let records: Vec<Record> = (0..n as u8)
+                .flat_map(|i| {
+                    let (j, k) = (random.below(n) as u8, random.below(n) as u8);
+                    let mut c = || random.unit();
+                    [
+                        Record::linear(i, -2.0 + c(), i),
+                        Record::product(i, 0.3 * c(), j, k),
+                        Record::constant(i, c()),
+                        Record::by_time(i, 0.3 * c(), k),
+                    ]
+                })
+                .collect();
+            let bytes = bytes_of(&records);
+            let table = Table::read(&bytes, n).unwrap();
+            let rhs = |derivative: &mut [f64], u: &[f64], _: &(), t: f64| {
+                // In the record's own order, without the table's loop.
+                for (i, entry) in derivative.iter_mut().enumerate() {
+                    let terms = records.iter().filter(|r| usize::from(r.target) == i).map(|r| {
+                        let (j, k) = (usize::from(r.j), usize::from(r.k));
+                        [r.c, r.c * u[j], r.c * u[j] * u[k], r.c * u[j] * t][usize::from(r.kind)]
+                    });
+                    *entry = terms.fold(0.0, |sum, term| sum + term);
+                }
+                Ok(())
+            };
+            let problem = OdeProblem::new(rhs);
+            let (mut time, mut state) = (0.5, (0..n).map(|_| random.unit()).collect::<Vec<f64>>());
+            let options = SolveOptions::tolerances(1e-3, 1e-6);
+            let mut stats = SolverStats::default();
+            let mut kernel = published::kernel(n, usize::from(scheme));
+            kernel.initialize(&problem, &state, time, &mut stats).unwrap();
+            let (answer, mut session) = Session::open(&Opening {
+                scheme,
+                n: n as u8,
+                history_held: false,
+                time,
+                relative: 1e-3,
+                absolute: alike(n, 1e-6),
+                state: vector(&state),
+                derivative: table.derivative(time, &state),
+                history: vector(&[]),
+            });
+            assert_eq!(answer, Answer::Resting);
+            for step in [0.1, 0.05, -0.02] {
+                let mut candidate = vec![0.0; n];
+                kernel
+                    .attempt_step(&problem, &state, time, step, &mut candidate, &options, &mut stats)
+                    .unwrap();
+                time += step;
+                kernel.accept_step(&problem, &candidate, time, &mut stats).unwrap();
+                state = candidate;
+                let (answer, next) = session.whole_step(step, &bytes);
+                assert_eq!(answer, Answer::Resting);
+                assert!(next.time == time && same(&next.state[..n], &state));
+                assert!(same(&next.derivative, &table.derivative(time, &state)));
+                assert_eq!((next.attempt, next.history_held), (Attempt::None, usize::from(scheme) == ETD2));
+                session = next;
+            }
+        }
+    }
+}
+
+/// The session's checks, then 8, then the step's 5; then begin, the answers and accept.
+#[test]
+fn a_whole_step_is_refused_in_its_order() {
+    let number = |session: &Session, step: f64, table: &[u8]| {
+        let before = image(session);
+        let (answer, after) = session.clone().whole_step(step, table);
+        assert!(answer == Answer::Resting || image(&after) == before);
+        match answer {
+            Answer::Refused(number) => number,
+            _ => 0,
+        }
+    };
+    let good = open(2, 0.0, 1.0, -1.0);
+    let bad_table = [0; 15];
+    let wrong = |wrong: &dyn Fn(&mut Session)| {
+        let mut session = good.clone();
+        wrong(&mut session);
+        number(&session, 0.0, &bad_table)
+    };
+    assert_eq!(wrong(&|s| (s.n, s.scheme) = (0, 16)), 1);
+    assert_eq!(wrong(&|s| (s.state[1], s.scheme) = (-0.0, 16)), 1);
+    assert_eq!(wrong(&|s| (s.scheme, s.attempt, s.relative) = (16, Attempt::Supplied, 0.0)), 2);
+    assert_eq!(wrong(&|s| (s.attempt, s.step, s.relative) = (Attempt::Supplied, f64::NAN, 0.0)), 7);
+    assert_eq!(wrong(&|s| (s.relative, s.time) = (0.0, f64::NAN)), 4);
+    assert_eq!(wrong(&|s| s.derivative[0] = f64::INFINITY), 3);
+    assert_eq!(wrong(&|_| ()), 8);
+    let decay = bytes_of(&[Record::linear(0, -1.0, 0)]);
+    for step in [0.0, -0.0, f64::NAN, f64::INFINITY] {
+        assert_eq!(number(&good, step, &bad_table), 8);
+        assert_eq!(number(&good, step, &decay), 5);
+    }
+    assert_eq!(number(&good, 0.5, &decay), 0);
+    for (attempt, count) in [(Attempt::Supplied, 0), (Attempt::Supplied, 1), (Attempt::Differenced, 0)] {
+        let session = Session { attempt, count, step: 0.5, ..good.clone() };
+        assert_eq!(number(&session, 0.5, &decay), 7);
+    }
+}
+
+/// A derivative that overflows is 3, at a column, a stage and the candidate, also where the new time is not finite; a new time
+/// not finite is 6 where the derivative does not take it.
+#[test]
+fn a_derivative_that_overflows_is_refused_by_3_and_a_time_by_6() {
+    let number = |scheme: u8, time: f64, state: f64, step: f64, records: &[Record]| {
+        let table = bytes_of(records);
+        let derivative = Table::read(&table, 1).unwrap().derivative(time, &[state])[0];
+        let derivative = if derivative.is_finite() { derivative } else { 0.0 };
+        let session = open(scheme, time, state, derivative);
+        let (answer, after) = session.clone().whole_step(step, &table);
+        assert!(image(&after) == image(&session));
+        let (walked, _, calls) = session.step_by_table(step, &Table::read(&table, 1).unwrap());
+        assert_eq!(walked, answer);
+        (answer, calls)
+    };
+    let far = oracle::bits::power_of_two(1023);
+    let curved = [Record::constant(0, 1.0), Record::product(0, 1e-300, 0, 0)];
+    let three = Answer::Refused(3);
+    let six = Answer::Refused(6);
+    assert_eq!(number(1, 0.0, 1e160, 0.5, &[Record::product(0, 1.0, 0, 0)]), (three, 1));
+    assert_eq!(number(2, 0.0, 1.0, 1e308, &curved), (three, 2));
+    assert_eq!(number(1, 0.0, 1.0, 1e308, &curved), (three, 2));
+    assert_eq!(number(0, 0.0, 1.0, 1e308, &curved), (three, 2));
+    assert_eq!(number(1, far, 1.0, far, &[Record::by_time(0, 0.0, 0)]), (three, 2));
+    assert_eq!(number(1, far, 1.0, far, &[]), (six, 2));
+    // Etdrk2 asks at the new time.
+    assert_eq!(number(2, far, 1.0, far, &[Record::by_time(0, 0.0, 0)]), (six, 1));
+    assert_eq!(number(1, 0.0, f64::MAX, 0.5, &[]), (six, 0));
+    assert_eq!(number(1, 0.0, 1.0, 0.5, &[Record::linear(0, 1e12, 0)]), (six, 1));
+}
+
+/// Accepted whatever its error norm: a host would give this one up.
+#[test]
+fn a_whole_step_is_taken_whatever_its_norm() {
+    let session = Session { relative: 1e-300, absolute: vector(&[1e-300]), ..open(15, 0.0, 1.0, 1.0) };
+    let table = bytes_of(&[Record::product(0, 1.0, 0, 0)]);
+    let mut lent = [BEFORE];
+    let mut told = session.clone().begin(false, 0.5, &[0.0; PLACES * PLACES], &mut lent);
+    while let (Answer::Ask { .. }, asking) = told {
+        told = asking.supply(&vector(&[lent[0] * lent[0]]), &mut lent);
+    }
+    assert!(matches!(told.0, Answer::Ready { norm, .. } if norm > 1e100), "{:?}", told.0);
+    let (answer, next) = session.whole_step(0.5, &table);
+    assert_eq!((answer, next.time, next.state[0]), (Answer::Resting, 0.5, lent[0]));
 }
