@@ -9,11 +9,11 @@
 
 #include "vunchrem.h"
 
-enum call { OPEN, FIRST_STEP, BEGIN, SUPPLY, ACCEPT, DROP, EXPONENTIAL, PHI_ACTION, ERROR_NORM, BRING_OVER, NOTHING };
+enum call { OPEN, FIRST_STEP, BEGIN, SUPPLY, ACCEPT, DROP, OPEN_BY_TABLE, WHOLE_STEP, EXPONENTIAL, PHI_ACTION, ERROR_NORM, BRING_OVER, NOTHING };
 enum { STACK = 1 << 20, PAINT = 0xa5, SESSION_CALLS = EXPONENTIAL, CALLS = NOTHING, LARGEST = 20 };
 
-static const char *const calls[CALLS] = {"open", "first step", "begin", "supply", "accept", "drop", "exponential", "phi action", "error norm",
-                                         "bring over"};
+static const char *const calls[CALLS] = {"open", "first step", "begin", "supply", "accept", "drop", "by table", "whole step", "exponential", "phi action",
+                                         "error norm", "bring over"};
 static const char *const schemes[] = {
     "LawsonEuler", "NorsettEuler", "Etdrk2", "Etdrk3", "Etdrk4", "HochOst4", "Exp4", "Epirk4s3A",
     "Epirk4s3B", "Epirk5s3", "Exprb53s3", "Epirk5P1", "Epirk5P2", "Etd2", "Exprb32", "Exprb43"};
@@ -25,6 +25,8 @@ static vunchrem_reply r;
 static uint64_t scheme, n, wish, order;
 static double absolute[VUNCHREM_VECTOR], u[VUNCHREM_VECTOR], du[VUNCHREM_VECTOR], none[VUNCHREM_VECTOR], old[VUNCHREM_OLD_FIGURES];
 static double jacobian[VUNCHREM_MATRIX], matrix[LARGEST * LARGEST], out[LARGEST * LARGEST];
+static unsigned char table[VUNCHREM_RECORDS * VUNCHREM_RECORD];
+static size_t table_len;
 static enum call next;
 
 #define SESSION s.numbers, VUNCHREM_NUMBERS, s.figures, VUNCHREM_FIGURES
@@ -40,6 +42,8 @@ static void make(void) {
     case SUPPLY: vunchrem_supply(SESSION, du, V, out, n, REPLY); break;
     case ACCEPT: vunchrem_accept(SESSION, du, V, REPLY); break;
     case DROP: vunchrem_drop(SESSION, REPLY); break;
+    case OPEN_BY_TABLE: vunchrem_open_by_table(scheme, n, 0.0, tolerance, absolute, V, u, V, table, table_len, SESSION, REPLY); break;
+    case WHOLE_STEP: vunchrem_whole_step(step, table, table_len, SESSION, REPLY); break;
     case EXPONENTIAL: vunchrem_exponential(n, matrix, n * n, out, n * n, REPLY); break;
     case PHI_ACTION: vunchrem_phi_action(n, order, step, matrix, n * n, u, n, out, n, REPLY); break;
     case ERROR_NORM: vunchrem_error_norm(n, tolerance, absolute, V, none, V, u, V, u, V, REPLY); break;
@@ -107,6 +111,25 @@ static void linear(double *m, uint64_t size) {
             m[row * size + column] = row == column ? -100.0 : row == column + 1 ? 50.0 : row + 1 == column ? 25.0 : 0.0;
 }
 
+static void add(uint64_t target, enum vunchrem_kind kind, uint64_t j, uint64_t k, double c) {
+    vunchrem_put_record(table + table_len, target, kind, j, k, c);
+    table_len += VUNCHREM_RECORD;
+}
+
+/* The chain's right-hand side as a table. */
+static void tabled(void) {
+    uint64_t i;
+    table_len = 0;
+    for (i = 0; i < n; i++) {
+        add(i, VUNCHREM_LINEAR, i, 0, -100.0);
+        if (i > 0)
+            add(i, VUNCHREM_LINEAR, i - 1, 0, 50.0);
+        if (i + 1 < n)
+            add(i, VUNCHREM_LINEAR, i + 1, 0, 25.0);
+        add(i, VUNCHREM_PRODUCT, i, i, 0.1);
+    }
+}
+
 /* A state of n entries, and a tolerance for each. */
 static void start(void) {
     uint64_t i;
@@ -127,7 +150,8 @@ static void attempt(void) {
     }
 }
 
-/* Two steps, the second with a history under Etd2, and an attempt that is dropped. */
+/* Two steps, the second with a history under Etd2, and an attempt that is dropped; where the Jacobian is differenced, two whole steps by a table,
+ * too. */
 static void run(void) {
     int i;
     memset(jacobian, 0, sizeof jacobian);
@@ -144,6 +168,12 @@ static void run(void) {
     }
     attempt();
     measure(DROP);
+    if (wish)
+        return;
+    tabled();
+    measure(OPEN_BY_TABLE);
+    for (i = 0; i < 2; i++)
+        measure(WHOLE_STEP);
 }
 
 /* Makes a bare call and prints its depth. */

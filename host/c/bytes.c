@@ -40,3 +40,21 @@ uint64_t counts_of(const unsigned char *bytes, size_t length, size_t n, double s
     counts[2] = r.words[VUNCHREM_READY_PRODUCTS_AT];
     return r.words[VUNCHREM_OUTCOME_AT];
 }
+
+/* A record by the header. */
+void record_of(unsigned char *record, size_t target, size_t kind, size_t j, size_t k, double c) {
+    vunchrem_put_record(record, target, kind, j, k, c);
+}
+
+/* Opens a run by a table, takes whole steps until one is refused or all are made, and saves the session. Returns the last refusal, 0 where there is none. */
+uint64_t whole_steps(uint64_t scheme, uint64_t n, const double *absolute, const double *state, const unsigned char *table, size_t table_len,
+                     double step, size_t steps, unsigned char *saved) {
+    vunchrem_session s;
+    vunchrem_reply r;
+    vunchrem_open_by_table(scheme, n, 0.0, 1e-6, absolute, VUNCHREM_VECTOR, state, VUNCHREM_VECTOR, table, table_len,
+                           s.numbers, VUNCHREM_NUMBERS, s.figures, VUNCHREM_FIGURES, r.words, VUNCHREM_WORDS, r.told, 1);
+    while (steps-- > 0 && r.words[VUNCHREM_OUTCOME_AT] == VUNCHREM_RESTING)
+        vunchrem_whole_step(step, table, table_len, s.numbers, VUNCHREM_NUMBERS, s.figures, VUNCHREM_FIGURES, r.words, VUNCHREM_WORDS, r.told, 1);
+    vunchrem_save(&s, saved, VUNCHREM_BYTES);
+    return r.words[VUNCHREM_REFUSAL_AT];
+}

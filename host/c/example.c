@@ -1,5 +1,5 @@
 /* A stiff pair, u0' = -1000 (u0 - cos t) and u1' = u0 - u1, each with a tolerance of its own, stepped by Exprb32 from t = 0 to 0.1; then a NaN
- * answer, a huge word and a wrong length; then the session saved and restored; then what is counted. */
+ * answer, a huge word and a wrong length; then the session saved and restored; then what is counted; then whole steps by a table. */
 #include <math.h>
 #include <stdio.h>
 #include <stdlib.h>
@@ -37,20 +37,20 @@ static int counts(uint64_t first, uint64_t second, uint64_t third) {
     return k[0] == first && k[1] == second && k[2] == third;
 }
 
-/* One step: begin with a differenced Jacobian, answer every question, accept. Returns 0, or the refusal's number with the attempt dropped. The
- * products of the step are left in products. */
-static int step(double h) {
+/* One step by a right-hand side: begin with a differenced Jacobian, answer every question, accept. Returns 0, or the refusal's number with the
+ * attempt dropped. The products of the step are left in products. */
+static int step_by(void (*rhs)(double, const double *, double *), double h) {
     double u[N], du[16];
     vunchrem_begin(SESSION, h, 0, none, VUNCHREM_MATRIX, u, N, REPLY);
     if (r.words[VUNCHREM_OUTCOME_AT] == VUNCHREM_REFUSED)
         return (int)r.words[VUNCHREM_REFUSAL_AT];
     while (r.words[VUNCHREM_OUTCOME_AT] == VUNCHREM_ASK) {
-        f(r.told[0], u, du);
+        rhs(r.told[0], u, du);
         vunchrem_supply(SESSION, du, 16, u, N, REPLY);
     }
     if (r.words[VUNCHREM_OUTCOME_AT] == VUNCHREM_READY) {
         products = r.words[VUNCHREM_READY_PRODUCTS_AT];
-        f(s.figures[VUNCHREM_TIME_AT] + h, u, du);
+        rhs(s.figures[VUNCHREM_TIME_AT] + h, u, du);
         vunchrem_accept(SESSION, du, 16, REPLY);
     }
     if (r.words[VUNCHREM_OUTCOME_AT] == VUNCHREM_REFUSED) {
@@ -59,6 +59,10 @@ static int step(double h) {
         return k;
     }
     return 0;
+}
+
+static int step(double h) {
+    return step_by(f, h);
 }
 
 /* Whether a session is this one, bit for bit. */
@@ -146,6 +150,69 @@ static void counting(void) {
     check("a refusal has none", r.words[VUNCHREM_OUTCOME_AT] == VUNCHREM_REFUSED && counts(0, 0, 0));
 }
 
+/* The derivative that the table below gives, in its order. */
+static void g(double t, const double *u, double du[16]) {
+    memset(du, 0, 16 * sizeof *du);
+    du[0] = -100.0 * u[0] + (3.0 * u[1]) * t;
+    du[1] = (0.5 + 1.0 * u[0]) + (-1.0 * u[0]) * u[1];
+}
+
+static void by_table(void) {
+    enum { RECORDS = 5, LENGTH = RECORDS * VUNCHREM_RECORD, MOST = VUNCHREM_RECORDS * VUNCHREM_RECORD };
+    static const unsigned char many[MOST + VUNCHREM_RECORD];
+    static const double u[16] = {1.0, 2.0};
+    unsigned char table[LENGTH];
+    double du[16];
+    vunchrem_session kept, end;
+    int k;
+
+    vunchrem_put_record(table, 0, VUNCHREM_LINEAR, 0, 0, -100.0);
+    vunchrem_put_record(table + 1 * VUNCHREM_RECORD, 0, VUNCHREM_TIMED, 1, 0, 3.0);
+    vunchrem_put_record(table + 2 * VUNCHREM_RECORD, 1, VUNCHREM_CONSTANT, 0, 0, 0.5);
+    vunchrem_put_record(table + 3 * VUNCHREM_RECORD, 1, VUNCHREM_LINEAR, 0, 0, 1.0);
+    vunchrem_put_record(table + 4 * VUNCHREM_RECORD, 1, VUNCHREM_PRODUCT, 0, 1, -1.0);
+
+    g(0.25, u, du);
+    vunchrem_open(VUNCHREM_EXPRB43, N, 0, 0.25, 1e-6, absolute, 16, u, 16, du, 16, none, 16, SESSION, REPLY);
+    kept = s;
+    vunchrem_open_by_table(VUNCHREM_EXPRB43, N, 0.25, 1e-6, absolute, 16, u, 16, table, LENGTH, SESSION, REPLY);
+    check("open by a table is open with its derivative", r.words[VUNCHREM_OUTCOME_AT] == VUNCHREM_RESTING && same(&kept));
+    for (k = 0; k < 10; k++)
+        check("a step by the calls", step_by(g, 0.01) == 0);
+    end = s;
+    s = kept;
+    for (k = 0; k < 10; k++) {
+        vunchrem_whole_step(0.01, table, LENGTH, SESSION, REPLY);
+        check("a whole step by the table", r.words[VUNCHREM_OUTCOME_AT] == VUNCHREM_RESTING && counts(0, 0, 0));
+    }
+    printf("u(%g) = %.9f, %.9f\n", s.figures[VUNCHREM_TIME_AT], s.figures[VUNCHREM_STATE_AT], s.figures[VUNCHREM_STATE_AT + 1]);
+    check("both end in the same session, bit for bit", same(&end));
+
+    vunchrem_whole_step(0.0, table, LENGTH - 1, SESSION, REPLY);
+    check("a table of another length is refused by 8", r.words[VUNCHREM_REFUSAL_AT] == VUNCHREM_TABLE && same(&end));
+    table[LENGTH - VUNCHREM_RECORD] = N;
+    vunchrem_whole_step(0.0, table, LENGTH, SESSION, REPLY);
+    check("and one with a target that is not there", r.words[VUNCHREM_REFUSAL_AT] == VUNCHREM_TABLE && same(&end));
+    table[LENGTH - VUNCHREM_RECORD] = 1;
+    vunchrem_whole_step(0.0, table, LENGTH, SESSION, REPLY);
+    check("a whole step 0 by 5", r.words[VUNCHREM_REFUSAL_AT] == VUNCHREM_STEP && same(&end));
+    vunchrem_put_record(table, 0, VUNCHREM_PRODUCT, 1, 1, 1e308);
+    vunchrem_whole_step(0.01, table, LENGTH, SESSION, REPLY);
+    check("a derivative that overflows by 3", r.words[VUNCHREM_REFUSAL_AT] == VUNCHREM_NOT_FINITE && same(&end));
+    check("a wrong length of another slice gives 1", vunchrem_whole_step(0.01, table, LENGTH, s.numbers, 4, s.figures, VUNCHREM_FIGURES, REPLY) == 1);
+    check("and touches nothing", same(&end));
+    vunchrem_put_record(table, 0, VUNCHREM_LINEAR, 257, 0, 1.0);
+    check("a number above 255 is written as 255", table[2] == 255);
+    vunchrem_open_by_table(VUNCHREM_EXPRB43, N, 0.25, 1e-6, absolute, 16, u, 16, table, LENGTH, SESSION, REPLY);
+    check("and refused by 8", r.words[VUNCHREM_REFUSAL_AT] == VUNCHREM_TABLE);
+    vunchrem_open_by_table(VUNCHREM_EXPRB43, N, 0.25, 1e-6, absolute, 16, u, 16, table, 0, SESSION, REPLY);
+    check("an empty table is taken", r.words[VUNCHREM_OUTCOME_AT] == VUNCHREM_RESTING && s.figures[VUNCHREM_DERIVATIVE_AT] == 0.0);
+    vunchrem_open_by_table(VUNCHREM_EXPRB43, N, 0.25, 1e-6, absolute, 16, u, 16, many, MOST, SESSION, REPLY);
+    check("and one with the most records", r.words[VUNCHREM_OUTCOME_AT] == VUNCHREM_RESTING);
+    vunchrem_whole_step(0.01, many, sizeof many, SESSION, REPLY);
+    check("one more is refused by 8", r.words[VUNCHREM_REFUSAL_AT] == VUNCHREM_TABLE);
+}
+
 int main(void) {
     double u[16] = {0.0}, du[16], out[N] = {-1.5, -1.5}, bad[16] = {0.0};
     vunchrem_session kept;
@@ -185,5 +252,6 @@ int main(void) {
           r.words[VUNCHREM_REFUSAL_AT] == VUNCHREM_SCHEME && s.numbers[VUNCHREM_SCHEME_AT] == 256 + 14);
 
     counting();
+    by_table();
     return 0;
 }

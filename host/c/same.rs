@@ -1,10 +1,23 @@
-//! The C header beside the crate: what either saves, the other restores, and the counts go by the same names.
-use vunchrem::{exponential, Progress, Scheme, Session};
+//! The C header beside the crate: what either saves, the other restores; the counts go by the same names; tables have the same bytes, and the steps
+//! by them the same bits.
+use vunchrem::{exponential, Progress, Scheme, Session, Table};
 
 extern "C" {
     fn restore_and_save(bytes: *const u8, length: usize, saved: *mut u8, saved_length: usize) -> u32;
     fn reach_of(size: u64, m: *const f64, m_len: usize, out: *mut f64, out_len: usize, reach: *mut u64);
     fn counts_of(bytes: *const u8, length: usize, n: usize, step: f64, jacobian: *const f64, counts: *mut u64) -> u64;
+    fn record_of(record: *mut u8, target: usize, kind: usize, j: usize, k: usize, c: f64);
+    fn whole_steps(
+        scheme: u64,
+        n: u64,
+        absolute: *const f64,
+        state: *const f64,
+        table: *const u8,
+        table_len: usize,
+        step: f64,
+        steps: usize,
+        saved: *mut u8,
+    ) -> u64;
 }
 
 const BYTES: usize = 5149;
@@ -123,5 +136,77 @@ fn a_step_has_the_same_counts() {
             }
         };
         assert_eq!((outcome, by_c), (2, counts), "{scheme:?}");
+    }
+}
+
+#[test]
+fn a_record_has_the_same_bytes() {
+    for (target, j, k) in [
+        (0, 0, 0),
+        (1, 2, 3),
+        (15, 14, 13),
+        (254, 255, 256),
+        (257, usize::MAX, 1 << 32),
+    ] {
+        for c in [1.0, -0.1, -0.0, 1e308, f64::NAN, f64::INFINITY] {
+            let tables = [
+                Table::new().constant(target, c),
+                Table::new().linear(target, c, j),
+                Table::new().product(target, c, j, k),
+                Table::new().timed(target, c, j),
+            ];
+            for (kind, table) in tables.into_iter().enumerate() {
+                let mut record = [0xaa; Table::RECORD];
+                let (j, k) = (if kind == 0 { 0 } else { j }, if kind == 2 { k } else { 0 });
+                // SAFETY: record has the sixteen places that are written.
+                unsafe { record_of(record.as_mut_ptr(), target, kind, j, k, c) };
+                assert_eq!(record, table.as_bytes());
+            }
+        }
+    }
+}
+
+#[test]
+fn whole_steps_end_in_the_same_session() {
+    let table = Table::new()
+        .linear(0, -40.0, 0)
+        .timed(0, 3.0, 1)
+        .constant(1, 0.5)
+        .product(1, -1.0, 0, 1);
+    let huge = Table::new().product(0, 1e308, 0, 1).product(1, 2.0, 1, 1);
+    let (mut absolute, mut state) = ([0.0; 16], [0.0; 16]);
+    absolute[..2].copy_from_slice(&[1e-9, 1e-6]);
+    state[..2].copy_from_slice(&[1.0, 1.5]);
+    for scheme in Scheme::ALL {
+        for (table, step) in [
+            (&table, 0.01),
+            (&table, 0.0),
+            (&huge, 0.01),
+            (&Table::from_bytes([9; 16]), 0.01),
+        ] {
+            let (records, mut saved) = (table.as_bytes(), vec![0; BYTES]);
+            // SAFETY: absolute and state have sixteen places, the table its length, saved the bytes of a session. No two overlap.
+            let refusal = unsafe {
+                whole_steps(
+                    scheme as u64,
+                    2,
+                    absolute.as_ptr(),
+                    state.as_ptr(),
+                    records.as_ptr(),
+                    records.len(),
+                    step,
+                    5,
+                    saved.as_mut_ptr(),
+                )
+            };
+            match Session::open_by_table(scheme, 0.0, &state[..2], 1e-6, &absolute[..2], table) {
+                Err(refused) => assert_eq!(refusal, u64::from(refused.number())),
+                Ok(mut s) => {
+                    let end = (0..5).try_for_each(|_| s.whole_step(step, table));
+                    assert_eq!(refusal, end.map_or_else(|refused| u64::from(refused.number()), |()| 0));
+                    assert!(s.save() == saved, "{scheme:?}");
+                }
+            }
+        }
     }
 }

@@ -37,7 +37,23 @@ enum vunchrem_refusal {
     VUNCHREM_TOLERANCE = 4,  /* a tolerance is not finite and positive */
     VUNCHREM_STEP = 5,       /* the step is zero or not finite, or the largest step is NaN or below 2^-52 */
     VUNCHREM_ARITHMETIC = 6, /* the step's arithmetic is too large to be trusted */
-    VUNCHREM_PHASE = 7       /* the session is in another phase */
+    VUNCHREM_PHASE = 7,      /* the session is in another phase */
+    VUNCHREM_TABLE = 8       /* a table has a wrong length, or a record that breaks a rule, see VUNCHREM_RECORD */
+};
+
+/* Bytes of a table's record, and the most records of a table, which has no header and may be empty. Each record is one term of the right-hand side,
+ * added to one component of the derivative, the target, in the order in which they stand, from +0.0 on. Byte 0 is the target, byte 1 the kind,
+ * byte 2 j and byte 3 k, each zero where the kind does not use it, bytes 4 to 7 are zero, and bytes 8 to 15 are c, a finite double, lowest byte
+ * first. Target, j and k are below n. */
+#define VUNCHREM_RECORD 16
+#define VUNCHREM_RECORDS 256
+
+/* The kinds of a record. */
+enum vunchrem_kind {
+    VUNCHREM_CONSTANT, /* c */
+    VUNCHREM_LINEAR,   /* c * u_j */
+    VUNCHREM_PRODUCT,  /* (c * u_j) * u_k */
+    VUNCHREM_TIMED     /* (c * u_j) * time */
 };
 
 /* The largest dimension. */
@@ -155,6 +171,21 @@ uint32_t vunchrem_error_norm(uint64_t n, double relative, const double *absolute
  * numbers stay as they are. Nothing is judged: the next call judges the session. */
 uint32_t vunchrem_bring_over(const uint64_t *numbers, size_t numbers_len, const double *old, size_t old_len, double *figures, size_t figures_len);
 
+/* Opens a run whose derivative is the table's at time and state, with no history; absolute and state have 16 places, the table any length. Refused as
+ * vunchrem_open refuses with a derivative of +0.0, then by 8, then by 3 where the derivative is not finite. */
+uint32_t vunchrem_open_by_table(uint64_t scheme, uint64_t n, double time, double relative,
+                                const double *absolute, size_t absolute_len, const double *state, size_t state_len,
+                                const unsigned char *table, size_t table_len,
+                                uint64_t *numbers, size_t numbers_len, double *figures, size_t figures_len,
+                                uint64_t *words, size_t words_len, double *told, size_t told_len);
+
+/* One whole step of a session at rest: the Jacobian is differenced, every question answered by the table, and the candidate accepted whatever its error
+ * norm, with the table's derivative there. The table has any length. Refused first by what is wrong with the session, then by 8, then by 5, then as the step
+ * comes: by 3 where a derivative is not finite, by 6 for the arithmetic. The outcome is Resting, or Refused with the session as it came. */
+uint32_t vunchrem_whole_step(double step, const unsigned char *table, size_t table_len,
+                             uint64_t *numbers, size_t numbers_len, double *figures, size_t figures_len,
+                             uint64_t *words, size_t words_len, double *told, size_t told_len);
+
 /* What saving and restoring come to; vunchrem_bytes_words has it in words. */
 enum vunchrem_bytes_code { VUNCHREM_BYTES_DONE, VUNCHREM_BYTES_ROOM, VUNCHREM_BYTES_LENGTH };
 
@@ -176,6 +207,16 @@ static inline void vunchrem_put_double(unsigned char *bytes, double x) {
         bits = UINT64_C(0x7ff8000000000000);
     for (i = 0; i < 8; i++)
         bytes[i] = (unsigned char)(bits >> 8 * i & 0xff);
+}
+
+/* Writes a record, VUNCHREM_RECORD bytes; j and k are 0 where the kind does not use them. A number above 255 is written as 255, which no call takes. */
+static inline void vunchrem_put_record(unsigned char *record, size_t target, size_t kind, size_t j, size_t k, double c) {
+    const size_t numbers[4] = {target, kind, j, k};
+    size_t i;
+    for (i = 0; i < 4; i++)
+        record[i] = numbers[i] < 255 ? (unsigned char)numbers[i] : 255;
+    memset(record + 4, 0, 4);
+    vunchrem_put_double(record + 8, c);
 }
 
 /* Doubles from eight bytes each. */

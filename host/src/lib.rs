@@ -5,6 +5,9 @@
 //! step goes call by call: [`Session::begin`], [`Session::supply`] for each question, then [`Session::accept`] or
 //! [`Session::drop_attempt`].
 //!
+//! Where the right-hand side is a sum of terms such as c·u_j·u_k, a [`Table`] of them is enough, and the core steps without asking:
+//! [`Session::open_by_table`], [`Session::whole_step`].
+//!
 //! The absolute tolerance is one for all components or one for each ([`Tolerance`]). A session is saved as bytes by [`Session::save`] and
 //! brought back by [`Session::restore`].
 //!
@@ -32,92 +35,21 @@
 use std::error::Error;
 use std::fmt;
 
+mod by_table;
 mod layout;
 mod raw;
 mod saving;
+mod scheme;
+mod table;
 #[cfg(test)]
 mod tests;
 
 pub use saving::RestoreError;
+pub use scheme::Scheme;
+pub use table::Table;
 
 /// The largest dimension of a session.
 pub const MOST: usize = layout::VECTOR;
-
-/// The sixteen schemes, in the order and with the numbers of the published module.
-#[derive(Clone, Copy, Debug, Eq, Hash, PartialEq)]
-#[repr(u8)]
-pub enum Scheme {
-    /// First-order Lawson exponential Euler method.
-    LawsonEuler = 0,
-    /// First-order Nørsett exponential Euler method.
-    NorsettEuler = 1,
-    /// Second-order exponential Runge-Kutta method.
-    Etdrk2 = 2,
-    /// Third-order exponential Runge-Kutta method.
-    Etdrk3 = 3,
-    /// Fourth-order exponential Runge-Kutta method.
-    Etdrk4 = 4,
-    /// Hochbruck and Ostermann's method of stiff order four.
-    HochOst4 = 5,
-    /// Hochbruck, Lubich and Selhofer's exp4.
-    Exp4 = 6,
-    /// Three-stage EPIRK method of stiff order four, A.
-    Epirk4s3A = 7,
-    /// Three-stage EPIRK method of stiff order four, B.
-    Epirk4s3B = 8,
-    /// Three-stage fifth-order horizontal EPIRK method.
-    Epirk5s3 = 9,
-    /// Three-stage fifth-order exponential Rosenbrock method.
-    Exprb53s3 = 10,
-    /// Fifth-order EPIRK method P1.
-    Epirk5P1 = 11,
-    /// Fifth-order EPIRK method P2.
-    Epirk5P2 = 12,
-    /// Second-order multistep exponential time differencing; the only one with a history.
-    Etd2 = 13,
-    /// Embedded exponential Rosenbrock 3(2) method; it has an error norm.
-    Exprb32 = 14,
-    /// Embedded exponential Rosenbrock 4(3) method; it has an error norm.
-    Exprb43 = 15,
-}
-
-impl Scheme {
-    /// All sixteen, in order.
-    pub const ALL: [Scheme; 16] = [
-        Scheme::LawsonEuler,
-        Scheme::NorsettEuler,
-        Scheme::Etdrk2,
-        Scheme::Etdrk3,
-        Scheme::Etdrk4,
-        Scheme::HochOst4,
-        Scheme::Exp4,
-        Scheme::Epirk4s3A,
-        Scheme::Epirk4s3B,
-        Scheme::Epirk5s3,
-        Scheme::Exprb53s3,
-        Scheme::Epirk5P1,
-        Scheme::Epirk5P2,
-        Scheme::Etd2,
-        Scheme::Exprb32,
-        Scheme::Exprb43,
-    ];
-
-    /// The classical order of convergence.
-    pub const fn order(self) -> usize {
-        match self {
-            Scheme::LawsonEuler | Scheme::NorsettEuler => 1,
-            Scheme::Etdrk2 | Scheme::Etd2 => 2,
-            Scheme::Etdrk3 | Scheme::Exprb32 => 3,
-            Scheme::Etdrk4
-            | Scheme::HochOst4
-            | Scheme::Exp4
-            | Scheme::Epirk4s3A
-            | Scheme::Epirk4s3B
-            | Scheme::Exprb43 => 4,
-            Scheme::Epirk5s3 | Scheme::Exprb53s3 | Scheme::Epirk5P1 | Scheme::Epirk5P2 => 5,
-        }
-    }
-}
 
 /// Why a call was refused. The session is as it was before the call, bit for bit.
 #[derive(Clone, Copy, Debug, Eq, Hash, PartialEq)]
@@ -136,10 +68,12 @@ pub enum Refusal {
     Arithmetic,
     /// 7: the call does not fit the phase: begin while an attempt is under way, supply with nothing asked, accept before the candidate is there.
     Phase,
+    /// 8: a table whose length is no multiple of 16 or that holds more than 256 records, or a record that breaks a rule, see [`Table`].
+    Table,
 }
 
 impl Refusal {
-    /// The number of the refusal, 1 to 7.
+    /// The number of the refusal, 1 to 8.
     pub const fn number(self) -> u8 {
         match self {
             Refusal::Size => 1,
@@ -149,6 +83,7 @@ impl Refusal {
             Refusal::Step => 5,
             Refusal::Arithmetic => 6,
             Refusal::Phase => 7,
+            Refusal::Table => 8,
         }
     }
 
@@ -161,7 +96,8 @@ impl Refusal {
             5 => Refusal::Step,
             6 => Refusal::Arithmetic,
             7 => Refusal::Phase,
-            _ => unreachable!("the core gives the numbers 1 to 7"),
+            8 => Refusal::Table,
+            _ => unreachable!("the core gives the numbers 1 to 8"),
         }
     }
 }
@@ -176,6 +112,7 @@ impl fmt::Display for Refusal {
             Refusal::Step => "the step is zero or not finite, or the largest step is too small",
             Refusal::Arithmetic => "the step's arithmetic is too large to be trusted",
             Refusal::Phase => "the session is in another phase",
+            Refusal::Table => "the table has a wrong length, or a record that breaks a rule",
         };
         write!(f, "refused by {}: {words}", self.number())
     }

@@ -138,4 +138,37 @@ extern "C" {
         figures: *mut f64,
         figures_len: usize,
     ) -> u32;
+    pub fn vunchrem_open_by_table(
+        scheme: u64,
+        n: u64,
+        time: f64,
+        relative: f64,
+        absolute: *const f64,
+        absolute_len: usize,
+        state: *const f64,
+        state_len: usize,
+        table: *const u8,
+        table_len: usize,
+        numbers: *mut u64,
+        numbers_len: usize,
+        figures: *mut f64,
+        figures_len: usize,
+        words: *mut u64,
+        words_len: usize,
+        told: *mut f64,
+        told_len: usize,
+    ) -> u32;
+    pub fn vunchrem_whole_step(
+        step: f64,
+        table: *const u8,
+        table_len: usize,
+        numbers: *mut u64,
+        numbers_len: usize,
+        figures: *mut f64,
+        figures_len: usize,
+        words: *mut u64,
+        words_len: usize,
+        told: *mut f64,
+        told_len: usize,
+    ) -> u32;
 }

@@ -2,6 +2,8 @@
 //! count is which.
 use super::*;
 
+mod by_table;
+
 // The session's numbers and the bits of its figures.
 fn bits(s: &Session) -> (Vec<u64>, Vec<u64>) {
     (s.numbers.to_vec(), s.figures.iter().map(|x| x.to_bits()).collect())
@@ -398,7 +400,7 @@ fn products_grow_with_stiffness_up_to_their_bound() {
 
 #[test]
 fn refusals_have_numbers_and_words() {
-    for k in 1..=7 {
+    for k in 1..=8 {
         let r = Refusal::of(k);
         assert_eq!(r.number() as u64, k);
         assert!(r.to_string().starts_with(&format!("refused by {k}: ")));
