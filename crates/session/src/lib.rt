@@ -562,7 +562,7 @@ fn unopened(scheme: u8, n: usize, history: History) -> Head
 
 // The head that a refused open leaves.
 #[tactic(auto, unfolding(crate::specs::Session::fresh, crate::specs::Session::idle, crate::specs::Calls::nothing, crate::specs::Calls::opened))]
-fn no_head() -> Head
+pub fn no_head() -> Head
     ensures { result ≡ head_of nothing }
 {
     Head {

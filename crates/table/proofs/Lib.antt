@@ -1,3 +1,5 @@
 pub mod Known
 pub mod Records
 pub mod Sums
+pub mod Steps
+pub mod Openings

@@ -1,15 +1,15 @@
 // The sonde's own right-hand side: a table of 16-byte records, the derivative that it gives, and whole steps of a session by it.
 #![tactic(auto)]
 
-ghost use Rattle.std.specs.Prelude.{◌≡◌, true, ◌≤◌, ◌<◌, false, MatchOption, length, replicate, Ok, Err, MatchResult};
+ghost use Rattle.std.specs.Prelude.{◌≡◌, true, ◌&&◌, eqb, ◌≤◌, ◌<◌, false, MatchOption, length, replicate, Ok, Err, MatchResult};
 ghost use Rattle.float.specs.Arith.{zero+};
 ghost use Rattle.evaluation.specs.Sizes.{places};
 ghost use Rattle.session.specs.declared.Session.{Session};
 ghost use Rattle.session.specs.Tests.{tested};
 ghost use Rattle.session.specs.Values.{is_refused};
 ghost use Rattle.session.specs.Calls.{outcome, tell, drop_call};
-ghost use Rattle.session.specs.Figures.{session_of};
-ghost use Rattle.session.specs.Lent.{told_by, refused_by};
+ghost use Rattle.session.specs.Figures.{FIGURES, session_of};
+ghost use Rattle.session.specs.Lent.{told_by, refused_by, remains, lent_call, lent_open};
 ghost use Rattle.table.specs.Table.{record_ok, table_ok, records, value, derivative};
 ghost use Rattle.table.specs.Whole.{open_by_table, whole_tests, replied, answers, accepted, stepped, keeping, whole_step};
 
@@ -109,9 +109,7 @@ fn refused(k: Head, refusal: Refusal) -> Left
     }
 }
 
-// Opens a run with the table's derivative, without a history: it rests, or is refused as open refuses it with a derivative of +0.0, then by 8, then
-// by 3 where the table's derivative is not finite.
-pub fn open_by_table(
+fn open_over(
     scheme: u8,
     n: usize,
     time: f64,
@@ -150,6 +148,41 @@ pub fn open_by_table(
     )
 }
 
+// Opens a run with the table's derivative, without a history: it rests, or is refused as open refuses it with a derivative of +0.0, then by 8, then
+// by 3 where the table's derivative is not finite.
+pub fn open_by_table(
+    scheme: u8,
+    n: usize,
+    time: f64,
+    state: &[f64],
+    relative: f64,
+    absolute: &[f64],
+    bytes: &[u8],
+    figures: &mut [f64],
+) -> Left
+    ensures { remains result figures.new ≡ lent_open
+        (eqb (length figures.old) FIGURES && eqb (length absolute.now) places && eqb (length state.now) places)
+        figures.old (open_by_table (record {
+          scheme = scheme;
+          n = n;
+          time = «time»;
+          state = state.now;
+          derivative = replicate places zero+;
+          relative = «relative»;
+          absolute = absolute.now;
+          history = History.Missing;
+          previous = replicate places zero+;
+        }) bytes.now) }
+{
+    let (Some(absolute), Some(state)) = (absolute.as_array(), state.as_array()) else {
+        return refused(session::no_head(), Refusal::Places);
+    };
+    let Some(figures) = figures.as_mut_array() else {
+        return refused(session::no_head(), Refusal::Places);
+    };
+    open_over(scheme, n, time, relative, absolute, state, bytes, figures)
+}
+
 // ---- a whole step
 
 // What is tested before it: the session at rest, then the table, then the step.
@@ -176,6 +209,7 @@ fn test_whole<'a>(
 // Parts of a whole step, into room for the states asked about and the candidate.
 impl Table<'_> {
     // Answers the question, if one is asked: the derivative at its state and time.
+    #[tactic(auto, unfolding(crate::specs::Whole::replied, crate::specs::Whole::answer_to))]
     fn reply(&self, left: Left, figures: &mut Figures, room: &mut [f64]) -> Left
         requires { self.now.n ≤ length room.old }
         ensures { outcome (told_by result figures.new) room.new
@@ -208,6 +242,7 @@ impl Table<'_> {
     }
 
     // Accepts the candidate, if there is one, whatever its norm, with the derivative there.
+    #[tactic(auto, unfolding(crate::specs::Whole::accepted, crate::specs::Whole::accept_after, crate::specs::Whole::derivative_there, session::specs::Figures::session_of))]
     fn accept(&self, left: Left, figures: &mut Figures, room: &[f64]) -> Left
         requires { self.now.n ≤ length room.now }
         ensures { told_by result figures.new
@@ -250,9 +285,12 @@ fn keep(left: Left, figures: &mut Figures) -> Left
 
 // A whole step of a session at rest, over its lent figures: every question is answered by the table, and the candidate is accepted. Refused, the
 // session is as it came.
-pub fn whole_step(k: Head, figures: &mut Figures, bytes: &[u8], step: f64) -> Left
-    ensures { told_by result figures.new ≡ whole_step (session_of k figures.old) bytes.now «step» }
+pub fn whole_step(k: Head, figures: &mut [f64], bytes: &[u8], step: f64) -> Left
+    ensures { remains result figures.new ≡ lent_call (eqb (length figures.old) FIGURES) k figures.old (λ s. whole_step s bytes.now «step») }
 {
+    let Some(figures) = figures.as_mut_array() else {
+        return refused(k, Refusal::Places);
+    };
     let table = match test_whole(k, figures, bytes, step) {
         Ok(table) => table,
         Err(refusal) => return refused(k, refusal),
