@@ -1,5 +1,6 @@
 -- What the rules of a table give of its records. Assumes nothing.
-use Rattle.std.proofs.Common.{ℕ, ◌+◌, ◌*◌, ◌/◌, ◌≤◌, ◌<◌, arith, ◌≡◌, refl, sym, ap, Bool, true, false, cond, ◌&&◌, List, Float, eqb, length, lt-ltb, le-ltb, ltb-true, eq-eqb, ne_eqb}
+use Rattle.std.proofs.Common.{ℕ, ◌+◌, ◌*◌, ◌/◌, ◌≤◌, ◌<◌, arith, ◌≡◌, refl, sym, ap, Bool, true, false, cond, ◌&&◌}
+use Rattle.std.proofs.Common.{List, Float, eqb, length, lt-ltb, le-ltb, ltb-true, eq-eqb, ne_eqb}
 use Rattle.std.proofs.Math.Bool.{false≢true, and-true}
 use Rattle.loops.specs.Loop.{every, ◌!◌}
 use Rattle.loops.proofs.Bools.{both_true}

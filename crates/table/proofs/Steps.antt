@@ -1,10 +1,9 @@
 -- A whole step: what its parts leave, and the session as it came where it is refused. Assumes nothing.
-use Rattle.std.proofs.Common.{ℕ, zero, suc, ◌+◌, ◌≤◌, arith, ◌≡◌, refl, sym, ap, ◌∙◌, subst, true, false, List, [], ◌∷◌, ◌++◌, Float, length, replicate, take}
+use Rattle.std.proofs.Common.{ℕ, zero, suc, ◌+◌, ◌≤◌, arith, ◌≡◌, refl, sym, ap, ◌∙◌, subst, true, false, List, [], ◌∷◌, Float, length, replicate, take}
 use Rattle.std.proofs.Math.Numerals.{add-one}
-use Rattle.std.proofs.Math.ListN.{length-replicate}
-use Rattle.std.specs.Prelude.{Result, Ok, Err, ⊤, Some, None}
-use Rattle.loops.specs.Loop.{iter, ◌!◌}
-use Rattle.float.specs.Arith.{◌⊕◌, zero+}
+use Rattle.std.specs.Prelude.{Result, Ok, Err, Some}
+use Rattle.loops.specs.Loop.{iter}
+use Rattle.float.specs.Arith.{zero+}
 use Rattle.evaluation.specs.Sizes.{places}
 use Rattle.matrix.proofs.Vectors.{length-vec}
 use Rattle.session.specs.declared.Session.{Session}
@@ -20,8 +19,8 @@ use Rattle.session.specs.declared.Wish.TheVariants.{Difference}
 use Rattle.session.specs.Tests.{tested, condition, unless}
 use Rattle.session.specs.Values.{is_refused, values_of, figured}
 use Rattle.session.specs.Session.{jacobian_room, wanted, step_ok, run_of, session_tests}
-use Rattle.session.specs.Calls.{Outcome, outcome, tell, told, refuse, begin_call, supply_call, accept_call, drop_call}
-use Rattle.session.specs.Figures.{FIGURES, time_at, step_at, session_of}
+use Rattle.session.specs.Calls.{Outcome, tell, told, begin_call, supply_call, drop_call}
+use Rattle.session.specs.Figures.{FIGURES, session_of}
 use Rattle.session.specs.Lent.{told_by, refused_by}
 use Rattle.session.specs.Runs.{begin, supply, perform, after}
 use Rattle.session.specs.Claims.{Doubles, Typed, TypedCall, TypedCalls}
@@ -153,9 +152,10 @@ take-zeros (suc n) zero h = absurd (omega (arith, h))
 take-zeros (suc n) (suc m) h = ap (λ (l : List Float). zero+ ∷ l) (take-zeros n m (omega (arith, h)))
 
 -- begin, the answers and accept, one after the other
-pub step_made : (k : Head) (x : List Float) (t : List ℕ) (step : Float) {n : ℕ} → k.n ≡ n → {out : List Float} → out ≡ replicate n zero+ → {m : ℕ} → m ≡ wanted k.scheme n (Some Difference)
-    → {o p : Outcome} {r : Told} → o ≡ begin_call (session_of k x) step Difference (replicate jacobian_room zero+) out → p ≡ answers n t m o → r ≡ accepted n t p
-    → r ≡ stepped (session_of k x) t step
+pub step_made : (k : Head) (x : List Float) (t : List ℕ) (step : Float) {n : ℕ} → k.n ≡ n
+    → {out : List Float} → out ≡ replicate n zero+ → {m : ℕ} → m ≡ wanted k.scheme n (Some Difference)
+    → {o p : Outcome} {r : Told} → o ≡ begin_call (session_of k x) step Difference (replicate jacobian_room zero+) out → p ≡ answers n t m o
+    → r ≡ accepted n t p → r ≡ stepped (session_of k x) t step
 unfolding stepped started session_of
 step_made k x t step z e f g h i = rw (i, h, g, f, e, z)
 

@@ -223,13 +223,7 @@ impl Table<'_> {
     }
 
     // Answers as many questions as the attempt wants answers.
-    fn reply_all(
-        &self,
-        wanted: usize,
-        first: Left,
-        figures: &mut Figures,
-        room: &mut [f64],
-    ) -> Left
+    fn reply_all(&self, wanted: usize, first: Left, figures: &mut Figures, room: &mut [f64]) -> Left
         requires { self.now.n ≤ length room.old }
         ensures { outcome (told_by result figures.new) room.new
             ≡ answers self.now.n self.now.bytes.now wanted (outcome (told_by first figures.old) room.old) }
@@ -251,8 +245,8 @@ impl Table<'_> {
         let Ok(Answer::Ready(_, _, _, _)) = left.answer else {
             return left;
         };
-        let time = figures[TIME_AT] + figures[STEP_AT];
-        let slope = self.derivative(time, room);
+        let arrival = figures[TIME_AT] + figures[STEP_AT];
+        let slope = self.derivative(arrival, room);
         session::accept_over(left.head, figures, &slope)
     }
 

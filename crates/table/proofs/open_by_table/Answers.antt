@@ -11,7 +11,7 @@ returns c =
     let v = c.in-Some-Some in
     let a = v.ensures.cases in
     let u = v.ensures'.cases in
-    let long : length c.open_over.new.figures ≡ FIGURES = omega (arith, c.open_over.auto.figures, w.long) in
+    let long : length c.open_over.new.figures ≡ FIGURES = omega (arith, w.long) in
     lent-opened c.open_over.result.head _ (rw (eq-eqb _ _ w.long, eq-eqb _ _ a.long, eq-eqb _ _ u.long)) _ long _ (rw (a.same, u.same) at c.open_over.ensures)
 
 pub returns-in_default : goal.returns-in_default

@@ -36,7 +36,7 @@ unfolding whole_tests handed_tests session_of
 returns c =
     let good : table_ok c.args.k.n c.args.bytes.now ≡ true = rw (c.in-Some.ensures.0, c.in-Some.ensures.1, c.new.ensures) at c.in-Some.table.well_formed in (
       sym (session_then _ _ _ c.test_session.ensures c.in_ok-test_session.was
-      (holds_on {b = true} Why.Table _ (sym good) refl (holds_on Why.Step _ c.step_ok.ensures (ap not c.if-not-step_ok.false) all_hold))),
+          (holds_on {b = true} Why.Table _ (sym good) refl (holds_on Why.Step _ c.step_ok.ensures (ap not c.if-not-step_ok.false) all_hold))),
       c.in-Some.ensures.0 ∙ c.new.ensures,
       c.in-Some.ensures.1,
     )

@@ -21,6 +21,6 @@ returns c =
     let w = c.in-Some.ensures.cases in
     let passes = rw w.same at c.in-Ok.ensures.0 in
     let stepped = rw (w.same, c.in-Ok.ensures.2) at c.step-left.ensures in
-    let long : length c.keep.new.figures ≡ FIGURES = omega (arith, c.keep.auto.figures, c.step-left.auto.figures, w.same, w.long) in
+    let long : length c.keep.new.figures ≡ FIGURES = omega (arith, w.long) in
     lent_made a.k a.figures.now (eq-eqb _ _ w.long) _ long _
     (whole_made a.k a.figures.now a.bytes.now a.step passes (record { places = w.long; fit = search rules }) c.step-left.result c.step-left.new.figures stepped c.keep.ensures)

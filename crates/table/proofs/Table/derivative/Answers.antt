@@ -1,6 +1,6 @@
 -- `table::Table::derivative` meets its contract. Assumes nothing.
-use Rattle.std.proofs.Common.{refl, sym, arith, ◌<◌, ◌∙◌, ap}
-use Rattle.table.specs.Table.{records, target, value}
+use Rattle.std.proofs.Common.{refl, arith}
+use Rattle.table.specs.Table.{records}
 use Rattle.table.proofs.Records.{target_below}
 use Rattle.table.proofs.Sums.{sums_start, sums_more, sums_end}
 use Rattle.table.proofs.Table.derivative.Goals as goal

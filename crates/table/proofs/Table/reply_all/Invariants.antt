@@ -1,5 +1,5 @@
 -- `table::Table::reply_all`: so many answers. Assumes nothing.
-use Rattle.std.proofs.Common.{◌≤◌, ◌≡◌, ◌-◌, length}
+use Rattle.std.proofs.Common.{◌≤◌, ◌≡◌, length}
 use Rattle.session.specs.Calls.{outcome}
 use Rattle.session.specs.Lent.{told_by}
 use Rattle.table.specs.Whole.{answers}
