@@ -12,6 +12,9 @@ use std::io::{Read, Write};
 // The most places of a matrix, an input or an output.
 const ROOM: usize = 512;
 
+// The most bytes of a table.
+const TABLE: usize = 8192;
+
 // The end of a run that its script asks for.
 fn ended() -> io::Error {
     io::Error::from(io::ErrorKind::InvalidData)
@@ -23,12 +26,12 @@ fn read_number<R: Read, W: Write>(pipe: &mut Pipe<R, W>) -> io::Result<usize> {
     Ok(wire::get_u8(&mut pipe.input)? as usize)
 }
 
-// How many places a matrix, an input or an output has.
-fn read_length<R: Read, W: Write>(pipe: &mut Pipe<R, W>) -> io::Result<usize>
-    ensures { IfOk result (λ length. length ≤ 512) }
+// How many places a matrix, an input or an output has, or how many bytes a table.
+fn read_length<R: Read, W: Write>(pipe: &mut Pipe<R, W>, most: usize) -> io::Result<usize>
+    ensures { IfOk result (λ length. length ≤ most) }
 {
     let length = wire::get_u16(&mut pipe.input)? as usize;
-    if length > ROOM {
+    if length > most {
         return Err(ended());
     }
     Ok(length)
@@ -94,7 +97,7 @@ fn begin<R: Read, W: Write>(pipe: &mut Pipe<R, W>, s: Session) -> io::Result<Ses
     let step = wire::get_f64(&mut pipe.input)?;
     let mut jacobian = [0.0; image::MATRIX];
     wire::get_doubles(&mut pipe.input, &mut jacobian)?;
-    let lent = read_length(pipe)?;
+    let lent = read_length(pipe, ROOM)?;
     let mut out = [-1.5; ROOM];
     let out = &mut out[..lent];
     let s = told(pipe, s.begin(step, wish, jacobian, out))?;
@@ -104,7 +107,7 @@ fn begin<R: Read, W: Write>(pipe: &mut Pipe<R, W>, s: Session) -> io::Result<Ses
 
 fn supply<R: Read, W: Write>(pipe: &mut Pipe<R, W>, s: Session) -> io::Result<Session> {
     let answer = read_vector(pipe)?;
-    let lent = read_length(pipe)?;
+    let lent = read_length(pipe, ROOM)?;
     let mut out = [-1.5; ROOM];
     let out = &mut out[..lent];
     let s = told(pipe, s.supply(answer, out))?;
@@ -122,12 +125,27 @@ fn first_step<R: Read, W: Write>(pipe: &mut Pipe<R, W>, s: Session) -> io::Resul
     told(pipe, s.first_step(largest))
 }
 
+fn whole_step<R: Read, W: Write>(pipe: &mut Pipe<R, W>, s: Session) -> io::Result<Session> {
+    let step = wire::get_f64(&mut pipe.input)?;
+    let bytes = read_length(pipe, TABLE)?;
+    let mut table = [0u8; TABLE];
+    let table = &mut table[..bytes];
+    pipe.input.read_exact(table)?;
+    let mut figures = s.figures();
+    let left = table::whole_step(s.head(), &mut figures, table, step);
+    let t = Told {
+        answer: left.answer,
+        session: Session::of(left.head, figures),
+    };
+    told(pipe, t)
+}
+
 // ---- the bare calls
 
 fn exponential<R: Read, W: Write>(pipe: &mut Pipe<R, W>) -> io::Result<()> {
     let size = read_number(pipe)?;
-    let entries = read_length(pipe)?;
-    let lent = read_length(pipe)?;
+    let entries = read_length(pipe, ROOM)?;
+    let lent = read_length(pipe, ROOM)?;
     let mut m = [0.0; ROOM];
     let m = &mut m[..entries];
     wire::get_doubles(&mut pipe.input, m)?;
@@ -141,9 +159,9 @@ fn phi_action<R: Read, W: Write>(pipe: &mut Pipe<R, W>) -> io::Result<()> {
     let n = read_number(pipe)?;
     let order = read_number(pipe)?;
     let scale_a = wire::get_f64(&mut pipe.input)?;
-    let entries = read_length(pipe)?;
-    let inputs = read_length(pipe)?;
-    let lent = read_length(pipe)?;
+    let entries = read_length(pipe, ROOM)?;
+    let inputs = read_length(pipe, ROOM)?;
+    let lent = read_length(pipe, ROOM)?;
     let mut a = [0.0; ROOM];
     let a = &mut a[..entries];
     wire::get_doubles(&mut pipe.input, a)?;
@@ -213,6 +231,7 @@ fn call<R: Read, W: Write>(pipe: &mut Pipe<R, W>, s: Session) -> io::Result<Sess
         9 => show(pipe, s).map(|()| s),
         10 => load(pipe),
         11 => bring_over(pipe),
+        12 => whole_step(pipe, s),
         _ => Err(ended()),
     }
 }

@@ -98,6 +98,9 @@ not_held a l r e none = go (a && fitting l) e
 pub tested : (a : Bool) {b : Bool} (l : Slices) → b ≡ fitting l → (a && b) ≡ true → Fits l
 tested a l f h = fits l (sym f ∙ and_right a _ h)
 
+pub right_three : (a m : ℕ) (b c : Bool) → a ≡ m → (b && c) ≡ true → (eqb a m && b && c) ≡ true
+right_three a m b c e f = rw (eq-eqb a m e) f
+
 pub right_five : (a b c d e m n : ℕ) → a ≡ m → b ≡ n → c ≡ n → d ≡ n → e ≡ n → (eqb a m && eqb b n && eqb c n && eqb d n && eqb e n) ≡ true
 right_five a b c d e m n o p q r s = rw (eq-eqb a m o, eq-eqb b n p, eq-eqb c n q, eq-eqb d n r, eq-eqb e n s)
 

@@ -11,14 +11,16 @@
 // gives, which any call refuses. Bringing a session over tells nothing but its code.
 #![tactic(auto)]
 
-ghost use Rattle.std.specs.Prelude.{◌≡◌, true, cond, ◌&&◌, eqb, length, Some, None};
+ghost use Rattle.std.specs.Prelude.{◌≡◌, true, cond, ◌&&◌, eqb, length, replicate, Some, None};
+ghost use Rattle.float.specs.Arith.{zero+};
 ghost use Rattle.image.specs.Image.{VECTOR, MATRIX, NUMBERS, scheme_of, history_of, wish_of, head_in, packed};
 ghost use Rattle.library.specs.Library.{room, slices, heard, fitting, vectors, Hears, Said, Open, BringOver, Call, CallLent, Ask, Bared, BaredLent};
 ghost use Rattle.session.specs.Calls.{open_call, begin_call, supply_call, accept_call, drop_call, first_step_call};
 ghost use Rattle.session.specs.Bare.{exponential_call, phi_call, norm_call};
 ghost use Rattle.session.specs.Values.{is_refused};
+ghost use Rattle.table.specs.Whole.{open_by_table, whole_step};
 
-use session::{Answer, Head, Left, Refusal};
+use session::{Answer, Head, History, Left, Refusal};
 
 // ---- lengths
 
@@ -149,6 +151,56 @@ pub extern "C" fn vunchrem_open(
     0
 }
 
+// Opens a run with the table's derivative, without a history: refused as an open with a derivative of +0.0, then by 8, then by 3 where the table's
+// derivative is not finite.
+#[unsafe(no_mangle)]
+pub extern "C" fn vunchrem_open_by_table(
+    scheme: u64,
+    n: u64,
+    time: f64,
+    relative: f64,
+    absolute: &[f64],
+    state: &[f64],
+    table: &[u8],
+    numbers: &mut [u64],
+    figures: &mut [f64],
+    words: &mut [u64],
+    told: &mut [f64],
+) -> u32
+    ensures { Open (eqb (length absolute.now) VECTOR && eqb (length state.now) VECTOR)
+        (open_by_table (record {
+          scheme = scheme_of scheme;
+          n = n;
+          time = «time»;
+          state = state.now;
+          derivative = replicate VECTOR zero+;
+          relative = «relative»;
+          absolute = absolute.now;
+          history = History.Missing;
+          previous = replicate VECTOR zero+;
+        }) table.now) result
+        (slices numbers.old figures.old words.old told.old)
+        (slices numbers.new figures.new words.new told.new) }
+{
+    let fits = (absolute.len() == image::VECTOR) & (state.len() == image::VECTOR);
+    if !(fits & lent(numbers, figures, words, told)) {
+        return 1;
+    }
+    let left = table::open_by_table(
+        image::scheme_of(scheme),
+        n as usize,
+        time,
+        state,
+        relative,
+        absolute,
+        table,
+        figures,
+    );
+    say(left.answer, words, told);
+    numbers.copy_from_slice(&image::numbers_of(left.head));
+    0
+}
+
 // Fills the figures from those that a session of the older layout had, 628 of them: its tolerance is copied n times. Its numbers stay
 // as they are, and nothing is judged: the next call judges the session.
 #[unsafe(no_mangle)]
@@ -256,6 +308,28 @@ pub extern "C" fn vunchrem_drop(
         return 1;
     };
     let left = k.drop(figures);
+    give_back(left, numbers, words, told);
+    0
+}
+
+// A whole step by the table, from rest to rest: every question is answered by it, and the candidate is accepted whatever its norm.
+#[unsafe(no_mangle)]
+pub extern "C" fn vunchrem_whole_step(
+    step: f64,
+    table: &[u8],
+    numbers: &mut [u64],
+    figures: &mut [f64],
+    words: &mut [u64],
+    told: &mut [f64],
+) -> u32
+    ensures { Call true (λ s. whole_step s table.now «step») result
+        (slices numbers.old figures.old words.old told.old)
+        (slices numbers.new figures.new words.new told.new) }
+{
+    let Some(k) = held(true, numbers, figures, words, told) else {
+        return 1;
+    };
+    let left = table::whole_step(k, figures, table, step);
     give_back(left, numbers, words, told);
     0
 }
