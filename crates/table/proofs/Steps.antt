@@ -1,7 +1,7 @@
 -- A whole step: what its parts leave, and the session as it came where it is refused. Assumes nothing.
 use Rattle.std.proofs.Common.{ℕ, zero, suc, ◌+◌, ◌≤◌, arith, ◌≡◌, refl, sym, ap, ◌∙◌, subst, true, false, List, [], ◌∷◌, Float, length, replicate, take}
 use Rattle.std.proofs.Math.Numerals.{add-one}
-use Rattle.std.specs.Prelude.{Result, Ok, Err, Some}
+use Rattle.std.specs.Prelude.{Result, Ok, Err, is_err, Some}
 use Rattle.loops.specs.Loop.{iter}
 use Rattle.float.specs.Arith.{zero+}
 use Rattle.evaluation.specs.Sizes.{places}
@@ -37,16 +37,16 @@ pub length-derivative : (n : ℕ) (t : List ℕ) (time : Float) (u : List Float)
 unfolding derivative
 length-derivative n t time u h = length-vec n (λ i. summed t time u i (records t)) h
 
--- only a refusal is one
-pub not_refusal : (a : Result Answer Refusal) → ((k : Refusal) → a ≡ Err k → ⊥) → is_refused a ≡ false
+-- a refusal is an error, and nothing else is
+refusal_is : (a : Result Answer Refusal) → is_refused a ≡ is_err a
 unfolding is_refused values_of figured
-not_refusal (Ok (Ask time)) h = refl
-not_refusal (Ok (Ready norm rhs jacobians products)) h = refl
-not_refusal (Ok Resting) h = refl
-not_refusal (Ok (FirstStep step)) h = refl
-not_refusal (Ok (Filled terms squarings)) h = refl
-not_refusal (Ok (Norm norm)) h = refl
-not_refusal (Err k) h = absurd (h k refl)
+refusal_is (Ok (Ask time)) = refl
+refusal_is (Ok (Ready norm rhs jacobians products)) = refl
+refusal_is (Ok Resting) = refl
+refusal_is (Ok (FirstStep step)) = refl
+refusal_is (Ok (Filled terms squarings)) = refl
+refusal_is (Ok (Norm norm)) = refl
+refusal_is (Err k) = refl
 
 -- ---- on the way of a whole step of s: its run stays, and nothing is wrong with the session
 
@@ -123,16 +123,16 @@ stepped_drops s t step typed e r =
 -- ---- what the code's parts show
 
 -- a refused step that was dropped, and one that was not refused
-pub kept_refused : (s : Session) (l : Left) (x : List Float) (k : Refusal) → l.answer ≡ Err k → {d r : Left} (y : List Float) → told_by d y ≡ drop_call (session_of l.head x)
-    → r ≡ refused_by d.head k → (is_refused l.answer ≡ true → drop_call (session_of l.head x) ≡ tell Resting s) → told_by r y ≡ keeping s (told_by l x)
-unfolding keeping is_refused values_of figured
-kept_refused s l x k e {d} y f g drops =
-    let z : is_refused l.answer ≡ true = unfold is_refused values_of figured in rw e in
-    rw (g, e) (ap (λ (r : Told). told (Err k) r.session) (f ∙ drops z))
-
-pub kept_accepted : (s : Session) (r : Told) → ((k : Refusal) → r.answer ≡ Err k → ⊥) → r ≡ keeping s r
+pub kept_refused : (s : Session) (l : Left) (x : List Float) → is_err l.answer ≡ true → {d r : Left} (y : List Float) → told_by d y ≡ drop_call (session_of l.head x)
+    → r ≡ record { answer = l.answer; head = d.head } → (is_refused l.answer ≡ true → drop_call (session_of l.head x) ≡ tell Resting s) → told_by r y ≡ keeping s (told_by l x)
 unfolding keeping
-kept_accepted s r h = rw (not_refusal r.answer h)
+kept_refused s l x h y f g drops =
+    let e : is_refused l.answer ≡ true = refusal_is l.answer ∙ h in
+    rw (g, e) (ap (λ (r : Told). told l.answer r.session) (f ∙ drops e))
+
+pub kept_accepted : (s : Session) (l : Left) (x : List Float) → is_err l.answer ≡ false → told_by l x ≡ keeping s (told_by l x)
+unfolding keeping
+kept_accepted s l x h = rw (refusal_is l.answer ∙ h)
 
 -- one answer more
 pub answers_none : (n : ℕ) (t : List ℕ) (o : Outcome) → o ≡ answers n t 0 o

@@ -85,16 +85,15 @@ impl<'a> Table<'a> {
     }
 
     // The derivative at a time and a state: each record adds to its target, in record order.
-    pub fn derivative(&self, time: f64, u: &[f64]) -> [f64; PLACES]
+    pub fn derivative(&self, time: f64, u: &[f64], sums: &mut [f64; PLACES])
         requires { self.now.n ≤ length u.now }
-        ensures { result ≡ derivative self.now.n self.now.bytes.now «time» u.now }
+        ensures { sums.new ≡ derivative self.now.n self.now.bytes.now «time» u.now }
     {
-        let mut sums = [0.0; PLACES];
+        *sums = [0.0; PLACES];
         for r in 0..self.bytes.len() / RECORD {
             let i = self.record(r).target();
             sums[i] += self.value(r, time, u);
         }
-        sums
     }
 }
 
@@ -142,7 +141,8 @@ fn open_over(
     let Some(table) = Table::new(Dimension::new(n), bytes) else {
         return refused(session::put_nothing(figures), Refusal::Table);
     };
-    let slope = table.derivative(time, state);
+    let mut slope = still;
+    table.derivative(time, state, &mut slope);
     session::open_over(
         scheme, n, none, time, relative, absolute, state, &slope, &still, figures,
     )
@@ -206,48 +206,66 @@ fn test_whole<'a>(
     Ok(table)
 }
 
-// Parts of a whole step, into room for the states asked about and the candidate.
+// Parts of a whole step, into room for the states asked about and the candidate, and into one for the derivatives there.
+// Kept: the derivatives are handed out through lent room, where an array could be given back: each array of sixteen in a whole step stands on the stack below the deepest call.
 impl Table<'_> {
     // Answers the question, if one is asked: the derivative at its state and time.
     #[tactic(auto, unfolding(crate::specs::Whole::replied, crate::specs::Whole::answer_to))]
-    fn reply(&self, left: Left, figures: &mut Figures, room: &mut [f64]) -> Left
+    fn reply(
+        &self,
+        left: &mut Left,
+        figures: &mut Figures,
+        room: &mut [f64],
+        slope: &mut [f64; PLACES],
+    )
         requires { self.now.n ≤ length room.old }
-        ensures { outcome (told_by result figures.new) room.new
-            ≡ replied self.now.n self.now.bytes.now (outcome (told_by left figures.old) room.old) }
+        ensures { outcome (told_by left.new figures.new) room.new
+            ≡ replied self.now.n self.now.bytes.now (outcome (told_by left.old figures.old) room.old) }
     {
         let Ok(Answer::Ask(time)) = left.answer else {
-            return left;
+            return;
         };
-        let slope = self.derivative(time, room);
-        session::supply_over(left.head, figures, &slope, room)
+        self.derivative(time, room, slope);
+        *left = session::supply_over(left.head, figures, slope, room);
     }
 
     // Answers as many questions as the attempt wants answers.
-    fn reply_all(&self, wanted: usize, first: Left, figures: &mut Figures, room: &mut [f64]) -> Left
+    fn reply_all(
+        &self,
+        wanted: usize,
+        left: &mut Left,
+        figures: &mut Figures,
+        room: &mut [f64],
+        slope: &mut [f64; PLACES],
+    )
         requires { self.now.n ≤ length room.old }
-        ensures { outcome (told_by result figures.new) room.new
-            ≡ answers self.now.n self.now.bytes.now wanted (outcome (told_by first figures.old) room.old) }
+        ensures { outcome (told_by left.new figures.new) room.new
+            ≡ answers self.now.n self.now.bytes.now wanted (outcome (told_by left.old figures.old) room.old) }
     {
-        let mut left = first;
         for _ in 0..wanted {
-            left = self.reply(left, figures, room);
+            self.reply(left, figures, room, slope);
         }
-        left
     }
 
     // Accepts the candidate, if there is one, whatever its norm, with the derivative there.
     #[tactic(auto, unfolding(crate::specs::Whole::accepted, crate::specs::Whole::accept_after, crate::specs::Whole::derivative_there, session::specs::Figures::session_of))]
-    fn accept(&self, left: Left, figures: &mut Figures, room: &[f64]) -> Left
+    fn accept(
+        &self,
+        left: &mut Left,
+        figures: &mut Figures,
+        room: &[f64],
+        slope: &mut [f64; PLACES],
+    )
         requires { self.now.n ≤ length room.now }
-        ensures { told_by result figures.new
-            ≡ accepted self.now.n self.now.bytes.now (outcome (told_by left figures.old) room.now) }
+        ensures { told_by left.new figures.new
+            ≡ accepted self.now.n self.now.bytes.now (outcome (told_by left.old figures.old) room.now) }
     {
         let Ok(Answer::Ready(_, _, _, _)) = left.answer else {
-            return left;
+            return;
         };
         let arrival = figures[TIME_AT] + figures[STEP_AT];
-        let slope = self.derivative(arrival, room);
-        session::accept_over(left.head, figures, &slope)
+        self.derivative(arrival, room, slope);
+        *left = session::accept_over(left.head, figures, slope);
     }
 
     // Begins with a differenced Jacobian, answers, accepts.
@@ -257,24 +275,24 @@ impl Table<'_> {
     {
         let mut room = [0.0; PLACES];
         let room = &mut room[..self.n.get()];
+        let mut slope = [0.0; PLACES];
         let wish = Wish::Difference;
         let wanted = session::wanted(k.scheme, self.n, Some(wish));
-        let first = session::begin_over(k, figures, step, wish, &[0.0; JACOBIAN], room);
-        let last = self.reply_all(wanted, first, figures, room);
-        self.accept(last, figures, room)
+        let mut left = session::begin_over(k, figures, step, wish, &[0.0; JACOBIAN], room);
+        self.reply_all(wanted, &mut left, figures, room, &mut slope);
+        self.accept(&mut left, figures, room, &mut slope);
+        left
     }
 }
 
 // Where the step was refused its attempt is dropped, so that the session is as it came.
-fn keep(left: Left, figures: &mut Figures) -> Left
-    ensures { (s : Session) → (is_refused left.answer ≡ true → drop_call (session_of left.head figures.old) ≡ tell Answer.Resting s)
-        → told_by result figures.new ≡ keeping s (told_by left figures.old) }
+fn keep(left: &mut Left, figures: &mut Figures)
+    ensures { (s : Session) → (is_refused left.old.answer ≡ true → drop_call (session_of left.old.head figures.old) ≡ tell Answer.Resting s)
+        → told_by left.new figures.new ≡ keeping s (told_by left.old figures.old) }
 {
-    let Err(refusal) = left.answer else {
-        return left;
-    };
-    let dropped = session::drop_over(left.head, figures);
-    refused(dropped.head, refusal)
+    if left.answer.is_err() {
+        left.head = session::drop_over(left.head, figures).head;
+    }
 }
 
 // A whole step of a session at rest, over its lent figures: every question is answered by the table, and the candidate is accepted. Refused, the
@@ -289,6 +307,7 @@ pub fn whole_step(k: Head, figures: &mut [f64], bytes: &[u8], step: f64) -> Left
         Ok(table) => table,
         Err(refusal) => return refused(k, refusal),
     };
-    let left = table.step(k, figures, step);
-    keep(left, figures)
+    let mut left = table.step(k, figures, step);
+    keep(&mut left, figures);
+    left
 }

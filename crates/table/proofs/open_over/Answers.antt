@@ -32,4 +32,4 @@ returns c =
     let r = run_by a.scheme a.n a.time a.state.now a.relative a.absolute.now in
     let passes = opening_passes r a.bytes.now c.open_over-first.ensures (sym c.is_err.ensures.value ∙ c.if-is_err.false) in
     let good : table_ok a.n a.bytes.now ≡ true = rw (c.in-Some.ensures.0, c.in-Some.ensures.1, c.new.ensures) at c.in-Some.table.well_formed in
-    (rw (c.derivative-slope.ensures, c.in-Some.ensures.0, c.in-Some.ensures.1, c.new.ensures) at c.open_over.ensures) ∙ tabled r a.bytes.now (opening_ok r a.bytes.now passes good)
+    (rw (c.derivative.ensures, c.in-Some.ensures.0, c.in-Some.ensures.1, c.new.ensures) at c.open_over.ensures) ∙ tabled r a.bytes.now (opening_ok r a.bytes.now passes good)

@@ -7,7 +7,7 @@ pub loop-init : goal.loop-init
 loop-init c = (omega arith, c.requires, answers_none _ _ _)
 
 pub loop-preserved : goal.loop-preserved
-loop-preserved c = (omega arith, omega (arith, c.reply-left.auto.room, c.loop.invariant.1), answers-more _ _ _ _ c.loop.invariant.2 c.reply-left.ensures)
+loop-preserved c = (omega arith, omega (arith, c.reply.auto.room, c.loop.invariant.1), answers-more _ _ _ _ c.loop.invariant.2 c.reply.ensures)
 
 pub returns : goal.returns
 returns c = answers_end _ _ _ _ _ c.loop.invariant.2 (omega arith)
