@@ -1,0 +1,147 @@
+// The program `sonde`, from standard input to standard output (docs/SONDE.md): it reads all of the input, opens the run that it tells of, and makes
+// its whole steps one by one, each with a frame. A refusal is one byte, its number, and ends the run.
+#![tactic(auto)]
+
+ghost use Rattle.std.specs.Prelude.{◌≡◌, length, take, IfOk, OnOk, IfSome};
+ghost use Rattle.std.specs.Io.KnownBytes.{Appends, IsAtEnd};
+ghost use Rattle.std.specs.Process.{exit_status};
+ghost use Rattle.loops.specs.Loop.{◌!◌};
+ghost use Rattle.evaluation.specs.Sizes.{places};
+ghost use Rattle.session.specs.Figures.{time_at, state_at, part};
+ghost use Rattle.sonde.specs.Frames.{frame};
+ghost use Rattle.sonde.specs.Ends.{status};
+
+mod input;
+
+use arrayvec::ArrayVec;
+use input::{Input, KEPT};
+use methods::Dimension;
+use pipe::Pipe;
+use session::{FIGURES, Figures, Head, Refusal, STATE_AT, TIME_AT};
+use std::io;
+use std::io::{Read, Write};
+use std::process::ExitCode;
+
+// Why a run ends before its last step: it is refused, or its output takes no more.
+enum Stop {
+    Refused(Refusal),
+    Closed,
+}
+
+impl From<Refusal> for Stop {
+    fn from(refusal: Refusal) -> Stop {
+        Stop::Refused(refusal)
+    }
+}
+
+impl From<io::Error> for Stop {
+    fn from(_unwritten: io::Error) -> Stop {
+        Stop::Closed
+    }
+}
+
+// How the program ends: with all steps made; with a refusal; with the refusal 1, its input being one that cannot be read; where its output takes no more.
+#[derive(Clone, Copy)]
+pub enum Ending {
+    Finished,
+    Refused,
+    Unread,
+    Closed,
+}
+
+impl From<Ending> for ExitCode {
+    ghost from_gives = { λ ending code. exit_status code ≡ status ending };
+
+    fn from(ending: Ending) -> ExitCode {
+        ExitCode::from(match ending {
+            Ending::Finished => 0u8,
+            Ending::Refused | Ending::Unread => 1,
+            Ending::Closed => 2,
+        })
+    }
+}
+
+// Reads the input to its end: its first bytes, as many as are kept.
+fn read<R: Read>(input: &mut R) -> io::Result<ArrayVec<u8, KEPT>>
+    ensures kept { IfOk result (λ kept. IfSome (R.remaining input.old) (λ b. kept.items ≡ take KEPT b)) }
+    ensures all { OnOk result (IsAtEnd (R.remaining input.new)) }
+{
+    let mut kept = ArrayVec::new();
+    let mut first = (&mut *input).take(KEPT as u64);
+    io::copy(&mut first, &mut kept)?;
+    io::copy(input, &mut io::sink())?;
+    Ok(kept)
+}
+
+// Writes a frame: the session's time and n states.
+fn write_frame<W: Write>(output: &mut W, n: Dimension, figures: &Figures) -> io::Result<()>
+    ensures { OnOk result (Appends (W.contents output.old) (W.contents output.new) (frame n (figures.now ! time_at) (part figures.now state_at places))) }
+{
+    wire::put_f64(output, figures[TIME_AT])?;
+    wire::put_doubles(output, &figures[STATE_AT..STATE_AT + n.get()])?;
+    output.flush()
+}
+
+// Writes a refusal: its number.
+fn write_refusal<W: Write>(output: &mut W, refusal: Refusal) -> io::Result<()> {
+    output.write_all(&[u8::from(refusal)])?;
+    output.flush()
+}
+
+// Makes the whole steps, each with a frame.
+fn write_steps<W: Write>(
+    output: &mut W,
+    input: &Input<'_>,
+    head: Head,
+    figures: &mut Figures,
+) -> Result<(), Stop> {
+    let mut head = head;
+    for _ in 0..input.steps() {
+        let left = table::whole_step(head, figures, input.table(), input.step());
+        left.answer?;
+        head = left.head;
+        write_frame(output, input.size(), figures)?;
+    }
+    Ok(())
+}
+
+// Makes the run that these bytes of input tell of.
+fn write_run<W: Write>(output: &mut W, bytes: &[u8]) -> Result<(), Stop> {
+    let Some(input) = Input::new(bytes) else {
+        return Err(Stop::Refused(Refusal::Places));
+    };
+    let mut figures = [0.0; FIGURES];
+    let left = input.open(&mut figures);
+    left.answer?;
+    write_steps(output, &input, left.head, &mut figures)
+}
+
+// The program: nothing is written before the input is read to its end.
+pub fn run<R: Read, W: Write>(pipe: &mut Pipe<R, W>) -> Ending {
+    let Ok(bytes) = read(&mut pipe.input) else {
+        return match write_refusal(&mut pipe.output, Refusal::Places) {
+            Ok(()) => Ending::Unread,
+            Err(_) => Ending::Closed,
+        };
+    };
+    match write_run(&mut pipe.output, bytes.as_slice()) {
+        Ok(()) => Ending::Finished,
+        Err(Stop::Closed) => Ending::Closed,
+        Err(Stop::Refused(refusal)) => match write_refusal(&mut pipe.output, refusal) {
+            Ok(()) => Ending::Refused,
+            Err(_) => Ending::Closed,
+        },
+    }
+}
+
+// Where no memory is left for the buffers, the streams stand without.
+fn main(rt: HostRuntime) -> ExitCode {
+    let ending = match pipe::standard(rt.alloc(), rt.stdin(), rt.stdout()) {
+        Ok(mut pipe) => run(&mut pipe),
+        Err(_) => run(&mut Pipe {
+            input: rt.stdin(),
+            output: rt.stdout(),
+        }),
+    };
+    ExitCode::from(ending)
+}
