@@ -2,14 +2,15 @@
 // its whole steps one by one, each with a frame. A refusal is one byte, its number, and ends the run.
 #![tactic(auto)]
 
-ghost use Rattle.std.specs.Prelude.{◌≡◌, length, take, IfOk, OnOk, IfSome};
+ghost use Rattle.std.specs.Prelude.{◌≡◌, [], ◌∷◌, length, take, IfOk, OnOk, IfSome};
 ghost use Rattle.std.specs.Io.KnownBytes.{Appends, IsAtEnd};
 ghost use Rattle.std.specs.Process.{exit_status};
 ghost use Rattle.loops.specs.Loop.{◌!◌};
 ghost use Rattle.evaluation.specs.Sizes.{places};
-ghost use Rattle.session.specs.Figures.{time_at, state_at, part};
-ghost use Rattle.sonde.specs.Frames.{frame};
-ghost use Rattle.sonde.specs.Ends.{status};
+ghost use Rattle.session.specs.Tests.{refusal_number};
+ghost use Rattle.session.specs.Figures.{time_at, state_at, part, session_of};
+ghost use Rattle.sonde.specs.Frames.{steps_in, frame, steps_by, course_of};
+ghost use Rattle.sonde.specs.Ends.{status, Made, Ended, AllRead};
 
 mod input;
 
@@ -29,12 +30,20 @@ enum Stop {
 }
 
 impl From<Refusal> for Stop {
+    ghost use Rattle.sonde.specs.declared.Stop.{Stop};
+
+    ghost from_gives = { λ refusal stop. stop ≡ Stop.Refused refusal };
+
     fn from(refusal: Refusal) -> Stop {
         Stop::Refused(refusal)
     }
 }
 
 impl From<io::Error> for Stop {
+    ghost use Rattle.sonde.specs.declared.Stop.{Stop};
+
+    ghost from_gives = { λ _ stop. stop ≡ Stop.Closed };
+
     fn from(_unwritten: io::Error) -> Stop {
         Stop::Closed
     }
@@ -83,7 +92,9 @@ fn write_frame<W: Write>(output: &mut W, n: Dimension, figures: &Figures) -> io:
 }
 
 // Writes a refusal: its number.
-fn write_refusal<W: Write>(output: &mut W, refusal: Refusal) -> io::Result<()> {
+fn write_refusal<W: Write>(output: &mut W, refusal: Refusal) -> io::Result<()>
+    ensures { OnOk result (Appends (W.contents output.old) (W.contents output.new) (refusal_number refusal ∷ [])) }
+{
     output.write_all(&[u8::from(refusal)])?;
     output.flush()
 }
@@ -94,9 +105,12 @@ fn write_steps<W: Write>(
     input: &Input<'_>,
     head: Head,
     figures: &mut Figures,
-) -> Result<(), Stop> {
+) -> Result<(), Stop>
+    ensures { Made (steps_by input.now.bytes.now (steps_in input.now.bytes.now) (session_of head figures.old)) (W.contents output.old) (W.contents output.new) result }
+{
     let mut head = head;
-    for _ in 0..input.steps() {
+    let steps = input.steps();
+    for _ in 0..steps {
         let left = table::whole_step(head, figures, input.table(), input.step());
         left.answer?;
         head = left.head;
@@ -106,7 +120,9 @@ fn write_steps<W: Write>(
 }
 
 // Makes the run that these bytes of input tell of.
-fn write_run<W: Write>(output: &mut W, bytes: &[u8]) -> Result<(), Stop> {
+fn write_run<W: Write>(output: &mut W, bytes: &[u8]) -> Result<(), Stop>
+    ensures { Made (course_of bytes.now) (W.contents output.old) (W.contents output.new) result }
+{
     let Some(input) = Input::new(bytes) else {
         return Err(Stop::Refused(Refusal::Places));
     };
@@ -117,7 +133,10 @@ fn write_run<W: Write>(output: &mut W, bytes: &[u8]) -> Result<(), Stop> {
 }
 
 // The program: nothing is written before the input is read to its end.
-pub fn run<R: Read, W: Write>(pipe: &mut Pipe<R, W>) -> Ending {
+pub fn run<R: Read, W: Write>(pipe: &mut Pipe<R, W>) -> Ending
+    ensures written { IfSome (R.remaining pipe.old.input) (λ b. Ended (course_of b) (W.contents pipe.old.output) (W.contents pipe.new.output) result) }
+    ensures all { AllRead (R.remaining pipe.new.input) result }
+{
     let Ok(bytes) = read(&mut pipe.input) else {
         return match write_refusal(&mut pipe.output, Refusal::Places) {
             Ok(()) => Ending::Unread,
