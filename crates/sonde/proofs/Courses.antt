@@ -1,5 +1,5 @@
 -- A run, step by step: what its definition says of it so far, and what is written so far. Assumes nothing.
-use Rattle.std.proofs.Common.{inl, inr, ℕ, suc, ◌+◌, ◌-◌, ◌<◌, arith, ◌≡◌, refl, sym, ap, ◌∙◌, Bool, true, false, cond, ◌&&◌, leb, List, [], ◌++◌, append-nil, append_assoc, Option, Some, None}
+use Rattle.std.proofs.Common.{inl, inr, ℕ, suc, ◌<◌, arith, ◌≡◌, refl, sym, ap, ◌∙◌, Bool, true, false, cond, ◌&&◌, leb, List, [], ◌++◌, append-nil, append_assoc, Option}
 use Rattle.std.specs.Prelude.{Ok, Err, ◌⊎◌}
 use Rattle.std.specs.Io.KnownBytes.{Appends}
 use Rattle.std.proofs.KnownBytes.{Appends-nil, Appends-trans}
@@ -13,7 +13,7 @@ use Rattle.session.specs.Tests.{tested, unless}
 use Rattle.session.specs.Session.{Run, size_ok, good1, session_tests}
 use Rattle.session.specs.Calls.{opened}
 use Rattle.table.specs.Whole.{opening_tests, open_by_table, whole_step}
-use Rattle.sonde.specs.Frames.{size_in, steps_in, step_in, table_in, reaches_table, run_in, frame, Course, ends_by, then, unless_refused, steps_by, course_of}
+use Rattle.sonde.specs.Frames.{size_in, steps_in, step_in, table_in, reaches_table, run_in, frame, Course, finished, ends_by, framed, unless_refused, steps_by, course_of}
 
 -- a run of this course has written some frames and goes on as `rest`
 pub record Along (course rest : Course) (old now : Option (List ℕ)) : Type 0 where
@@ -31,7 +31,7 @@ begins b k s now e = record {
 }
 
 -- a frame more
-pub goes_on : {course rest : Course} (next : Course) (bytes : List ℕ) (old now new : Option (List ℕ)) → Along course rest old now → rest ≡ then bytes next → Appends now new bytes
+pub goes_on : {course rest : Course} (next : Course) (bytes : List ℕ) (old now new : Option (List ℕ)) → Along course rest old now → rest ≡ framed bytes next → Appends now new bytes
     → Along course next old new
 goes_on next bytes old now new a e p = record {
   frames = a.frames ++ bytes;
@@ -54,11 +54,11 @@ module _ (b : List ℕ) {k : ℕ} (j : ℕ) (more : k ≡ suc j) (s : Session) {
   unfolding steps_by unless_refused
   steps_refused refusal e = rw (more, ← made, e)
 
-  pub steps_more : (answer : Answer) → t.answer ≡ Ok answer → steps_by b k s ≡ then (frame (size_in b) t.session.time t.session.state) (steps_by b j t.session)
+  pub steps_more : (answer : Answer) → t.answer ≡ Ok answer → steps_by b k s ≡ framed (frame (size_in b) t.session.time t.session.state) (steps_by b j t.session)
   unfolding steps_by unless_refused
   steps_more answer e = rw (more, ← made, e)
 
-pub steps_none : (b : List ℕ) {k : ℕ} (s : Session) → k ≡ 0 → steps_by b k s ≡ record { frames = []; refusal = None }
+pub steps_none : (b : List ℕ) {k : ℕ} (s : Session) → k ≡ 0 → steps_by b k s ≡ finished
 unfolding steps_by
 steps_none b s e = rw e
 

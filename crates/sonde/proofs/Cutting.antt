@@ -1,29 +1,26 @@
 -- What is past the bytes that are kept of an input does not count: a table that goes so far is too long. Assumes nothing.
-use Rattle.std.proofs.Common.{inl, inr, ℕ, ◌+◌, ◌-◌, ◌*◌, ◌/◌, ◌%◌, ◌≤◌, ◌<◌, arith, ◌≡◌, refl, sym, ap, ◌∙◌, Bool, true, false, cond, ◌&&◌, leb, eqb, List, [], ◌∷◌, Float, length, take, drop, replicate, length-drop, length-take-le, take_all}
-use Rattle.std.proofs.Math.Bool.{false≢true}
+use Rattle.std.proofs.Common.{inl, inr, ℕ, ◌+◌, ◌*◌, ◌/◌, ◌%◌, ◌≤◌, ◌<◌, arith, ◌≡◌, refl, sym, ap, ◌∙◌, Bool, true, false, cond, ◌&&◌, leb, eqb, List, [], ◌∷◌, length, take, drop, replicate, length-drop, length-take-le, take_all}
 use Rattle.std.proofs.lemmas.Bool.{eqb-true, leb-true, le-leb}
 use Rattle.std.proofs.lemmas.List.{get_or-take}
 use Rattle.std.specs.Prelude.{Result, Ok, Err, ⊤, ◌⊎◌, None}
-use Rattle.std.specs.Float.{binary64}
-use Rattle.std.specs.Float.Ieee.{of_bits}
 use Rattle.loops.specs.Loop.{every, fill}
 use Rattle.loops.proofs.Bools.{both_true}
 use Rattle.loops.proofs.Stores.{tab_ext}
 use Rattle.float.specs.Arith.{zero+}
 use Rattle.evaluation.specs.Sizes.{places}
-use Rattle.matrix.specs.Vector.{vec, zeros}
+use Rattle.matrix.specs.Vector.{vec}
 use Rattle.wire.specs.Wire.{byte_at, word16, word32, word64}
 use Rattle.session.specs.declared.Refusal.{Refusal}
 use Rattle.session.specs.declared.Refusal.TheVariants as Why
 use Rattle.session.specs.Tests.{tested, unless}
 use Rattle.session.specs.Session.{Run, session_tests}
-use Rattle.session.specs.Calls.{opened, refuse, nothing, open_call}
+use Rattle.session.specs.Calls.{opened}
 use Rattle.session.proofs.Laws.{session_fails}
-use Rattle.table.specs.Table.{record_bytes, most_records, records, length_ok, record_ok, table_ok, derivative}
+use Rattle.table.specs.Table.{record_bytes, most_records, records, length_ok, record_ok, table_ok}
 use Rattle.table.specs.Whole.{with_derivative, opening_tests, open_by_table}
 use Rattle.table.proofs.Openings.{opening_eight}
 use Rattle.sonde.specs.declared.input.TheConstants.{KEPT}
-use Rattle.sonde.specs.Frames.{double_at, size_in, scheme_in, steps_in, time_in, step_in, relative_in, absolute_from, state_from, table_from, vector_in, table_in, reaches_table, run_in, Course, ends_by, course_of}
+use Rattle.sonde.specs.Frames.{double_at, size_in, scheme_in, time_in, relative_in, absolute_from, state_from, table_from, vector_in, table_in, reaches_table, run_in, ends_by, course_of}
 use Rattle.sonde.proofs.Courses.{unfit, opening-refused}
 
 -- ---- what stands in the bytes that are kept

@@ -1,8 +1,8 @@
 -- A run by a table keeps the lengths of a session's arrays, so its head and figures hold it. Assumes nothing.
-use Rattle.std.proofs.Common.{ℕ, zero, suc, ◌*◌, ◌≤◌, ◌≡◌, refl, ap, ◌∙◌, Bool, true, false, cond, List, Float, length, replicate, eqb, eq-eqb}
+use Rattle.std.proofs.Common.{ℕ, zero, suc, ◌≤◌, ◌≡◌, refl, ap, ◌∙◌, Bool, true, false, cond, List, Float, length, replicate, eqb, eq-eqb}
 use Rattle.std.proofs.Math.ListN.{length-replicate}
-use Rattle.std.specs.Prelude.{Result, Ok, Err, ⊤, Some, None}
-use Rattle.loops.specs.Loop.{iter, ◌!◌}
+use Rattle.std.specs.Prelude.{Result, Ok, Err, Some, None}
+use Rattle.loops.specs.Loop.{iter}
 use Rattle.loops.proofs.Stores.{length-stores}
 use Rattle.float.specs.Arith.{◌⊕◌, zero+, finite}
 use Rattle.evaluation.specs.Sizes.{places, answer_room}
@@ -17,14 +17,13 @@ use Rattle.session.specs.declared.Answer.{Answer}
 use Rattle.session.specs.declared.Answer.TheVariants.{Ask, Ready, Resting, FirstStep, Filled, Norm}
 use Rattle.session.specs.declared.Refusal.{Refusal}
 use Rattle.session.specs.declared.Refusal.TheVariants as Why
-use Rattle.session.specs.declared.Phase.TheVariants.{Rest}
 use Rattle.session.specs.declared.Wish.TheVariants.{Difference}
-use Rattle.session.specs.Tests.{tested, unless}
+use Rattle.session.specs.Tests.{tested}
 use Rattle.session.specs.Values.{is_refused}
 use Rattle.session.specs.Session.{Run, fresh, idle, jacobian_room, wanted, progress, session_tests}
-use Rattle.session.specs.Figures.{FIGURES, session_of, head_of, figures_of}
+use Rattle.session.specs.Figures.{FIGURES, session_of, figures_of}
 use Rattle.session.specs.Lent.{told_by, Remains, remains, left, lent_call, lent_open}
-use Rattle.session.specs.Calls.{Outcome, outcome, tell, told, refuse, refuse_lent, opened, nothing, begun, answered, moved, shown, settled, arrived}
+use Rattle.session.specs.Calls.{Outcome, tell, told, refuse, refuse_lent, opened, nothing, begun, answered, moved, shown, settled, arrived}
 use Rattle.session.specs.Calls.{begin_tests, supply_tests, accept_tests, open_call, begin_call, supply_call, accept_call}
 use Rattle.session.proofs.Tests.{unless_either}
 use Rattle.session.proofs.Laws.{passed_sound, accept_passes}

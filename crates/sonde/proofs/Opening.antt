@@ -1,5 +1,5 @@
 -- The run that an input tells of. Assumes nothing.
-use Rattle.std.proofs.Common.{ℕ, ◌≤◌, ◌≡◌, ap, ◌∙◌, true, ◌&&◌, List, Float, eqb, length, replicate, eq-eqb}
+use Rattle.std.proofs.Common.{ℕ, ◌≤◌, ◌≡◌, ap, ◌∙◌, ◌&&◌, List, Float, eqb, length, replicate, eq-eqb}
 use Rattle.std.proofs.Math.ListN.{length-replicate}
 use Rattle.float.specs.Arith.{zero+}
 use Rattle.evaluation.specs.Sizes.{places}

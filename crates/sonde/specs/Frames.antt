@@ -94,13 +94,17 @@ pub record Course : Type 0 where
   pub frames : List ℕ
   pub refusal : Option Refusal
 
+-- all steps are made
+abbrev pub finished : Course
+finished = record { frames = []; refusal = None }
+
 -- refused, with no frame any more
 abbrev pub ends_by : Refusal → Course
 ends_by refusal = record { frames = []; refusal = Some refusal }
 
 -- a frame, and what comes then
-abbrev pub then : List ℕ → Course → Course
-then bytes next = record { frames = bytes ++ next.frames; refusal = next.refusal }
+abbrev pub framed : List ℕ → Course → Course
+framed bytes next = record { frames = bytes ++ next.frames; refusal = next.refusal }
 
 -- where a call is not refused, the run goes on
 unfoldable pub unless_refused : Result Answer Refusal → Course → Course
@@ -109,10 +113,10 @@ unless_refused (Err refusal) next = ends_by refusal
 
 -- so many whole steps from a session on, each by the input's table and step; a frame for each
 unfoldable pub steps_by : List ℕ → ℕ → Session → Course
-steps_by b zero s = record { frames = []; refusal = None }
+steps_by b zero s = finished
 steps_by b (suc k) s =
     let told = whole_step s (table_in b) (step_in b) in
-    unless_refused told.answer (then (frame (size_in b) told.session.time told.session.state) (steps_by b k told.session))
+    unless_refused told.answer (framed (frame (size_in b) told.session.time told.session.state) (steps_by b k told.session))
 
 -- the run of an input: 1 if it is cut short of its table; what the opening is refused by; then its steps
 unfoldable pub course_of : List ℕ → Course

@@ -23,7 +23,8 @@ use std::io;
 use std::io::{Read, Write};
 use std::process::ExitCode;
 
-// Why a run ends before its last step: it is refused, or its output takes no more.
+// Why a run ends before its last step is made: it is refused, or its output takes no more.
+#[derive(Clone, Copy)]
 enum Stop {
     Refused(Refusal),
     Closed,
@@ -49,7 +50,7 @@ impl From<io::Error> for Stop {
     }
 }
 
-// How the program ends: with all steps made; with a refusal; with the refusal 1, its input being one that cannot be read; where its output takes no more.
+// How the program ends: every step is made; the run is refused; the input cannot be read, which is refused by 1; the output takes no more.
 #[derive(Clone, Copy)]
 pub enum Ending {
     Finished,
@@ -70,7 +71,8 @@ impl From<Ending> for ExitCode {
     }
 }
 
-// Reads the input to its end: its first bytes, as many as are kept.
+// Reads the input to its end, and keeps its first bytes.
+// Kept: the loan is written out, for std says nothing of what `by_ref` lends.
 fn read<R: Read>(input: &mut R) -> io::Result<ArrayVec<u8, KEPT>>
     ensures kept { IfOk result (λ kept. IfSome (R.remaining input.old) (λ b. kept.items ≡ take KEPT b)) }
     ensures all { OnOk result (IsAtEnd (R.remaining input.new)) }
@@ -82,7 +84,7 @@ fn read<R: Read>(input: &mut R) -> io::Result<ArrayVec<u8, KEPT>>
     Ok(kept)
 }
 
-// Writes a frame: the session's time and n states.
+// Writes a frame, the session's time and n of its states, and hands it on.
 fn write_frame<W: Write>(output: &mut W, n: Dimension, figures: &Figures) -> io::Result<()>
     ensures { OnOk result (Appends (W.contents output.old) (W.contents output.new) (frame n (figures.now ! time_at) (part figures.now state_at places))) }
 {
@@ -91,7 +93,7 @@ fn write_frame<W: Write>(output: &mut W, n: Dimension, figures: &Figures) -> io:
     output.flush()
 }
 
-// Writes a refusal: its number.
+// Writes a refusal, its number as a byte, and hands it on.
 fn write_refusal<W: Write>(output: &mut W, refusal: Refusal) -> io::Result<()>
     ensures { OnOk result (Appends (W.contents output.old) (W.contents output.new) (refusal_number refusal ∷ [])) }
 {
@@ -99,16 +101,15 @@ fn write_refusal<W: Write>(output: &mut W, refusal: Refusal) -> io::Result<()>
     output.flush()
 }
 
-// Makes the whole steps, each with a frame.
+// Makes the whole steps of a session that rests, and writes the frame of each.
 fn write_steps<W: Write>(
     output: &mut W,
     input: &Input<'_>,
-    head: Head,
+    mut head: Head,
     figures: &mut Figures,
 ) -> Result<(), Stop>
     ensures { Made (steps_by input.now.bytes.now (steps_in input.now.bytes.now) (session_of head figures.old)) (W.contents output.old) (W.contents output.new) result }
 {
-    let mut head = head;
     let steps = input.steps();
     for _ in 0..steps {
         let left = table::whole_step(head, figures, input.table(), input.step());
@@ -119,7 +120,7 @@ fn write_steps<W: Write>(
     Ok(())
 }
 
-// Makes the run that these bytes of input tell of.
+// Makes the run of an input, and writes its frames.
 fn write_run<W: Write>(output: &mut W, bytes: &[u8]) -> Result<(), Stop>
     ensures { Made (course_of bytes.now) (W.contents output.old) (W.contents output.new) result }
 {
@@ -132,7 +133,8 @@ fn write_run<W: Write>(output: &mut W, bytes: &[u8]) -> Result<(), Stop>
     write_steps(output, &input, left.head, &mut figures)
 }
 
-// The program: nothing is written before the input is read to its end.
+// The program: the input is read to its end before anything is written, so that nobody who writes it is cut off. Where its bytes are known, and the
+// output tells its own, the clauses say all that is written.
 pub fn run<R: Read, W: Write>(pipe: &mut Pipe<R, W>) -> Ending
     ensures written { IfSome (R.remaining pipe.old.input) (λ b. Ended (course_of b) (W.contents pipe.old.output) (W.contents pipe.new.output) result) }
     ensures all { AllRead (R.remaining pipe.new.input) result }
@@ -153,7 +155,7 @@ pub fn run<R: Read, W: Write>(pipe: &mut Pipe<R, W>) -> Ending
     }
 }
 
-// Where no memory is left for the buffers, the streams stand without.
+// Where no memory is left for the buffers, the streams stand without. Their bytes are no clause's.
 fn main(rt: HostRuntime) -> ExitCode {
     let ending = match pipe::standard(rt.alloc(), rt.stdin(), rt.stdout()) {
         Ok(mut pipe) => run(&mut pipe),

@@ -1,6 +1,4 @@
 -- `sonde::run` meets its contract. Assumes nothing.
-use Rattle.std.proofs.Common.{◌≡◌, ap}
-use Rattle.sonde.specs.declared.Stop.TheVariants.{Refused}
 use Rattle.sonde.proofs.Writing.{finished, refused}
 use Rattle.sonde.proofs.run.Goals as goal
 

@@ -1,5 +1,5 @@
 -- `sonde::write_run` meets its contract. Assumes nothing.
-use Rattle.std.proofs.Common.{◌≡◌, refl}
+use Rattle.std.proofs.Common.{refl}
 use Rattle.std.proofs.KnownBytes.{Appends-nil}
 use Rattle.std.proofs.lemmas.Result.{err_from_is_err_and}
 use Rattle.sonde.proofs.Courses.{unfit, opening-refused, opening-rests}
