@@ -1,3 +1,6 @@
+mod Courses
+mod Cutting
 mod Keeping
+mod Lengths
 mod Opening
 mod Writing

@@ -1,13 +1,19 @@
 -- The bytes of the program `sonde`: what its input says, and what it writes. Definitions only.
-use Rattle.std.specs.Prelude.{ℕ, ◌+◌, ◌*◌, Bool, List, ◌∷◌, leb, Float, length, take, drop, replicate}
+use Rattle.std.specs.Prelude.{ℕ, zero, suc, ◌+◌, ◌*◌, Bool, cond, List, [], ◌∷◌, ◌++◌, leb, Float, length, take, drop, replicate, Result, Ok, Err, Option, Some, None}
 use Rattle.std.specs.Float.{binary64}
 use Rattle.std.specs.Float.Ieee.{of_bits}
 use Rattle.float.specs.Arith.{zero+}
 use Rattle.evaluation.specs.Sizes.{places}
 use Rattle.matrix.specs.Vector.{vec}
 use Rattle.wire.specs.Wire.{byte_at, word16, word64, doubles_bytes}
+use Rattle.session.specs.declared.Session.{Session}
+use Rattle.session.specs.declared.Answer.{Answer}
+use Rattle.session.specs.declared.Refusal.{Refusal}
+use Rattle.session.specs.declared.Refusal.TheVariants as Why
 use Rattle.session.specs.declared.History.TheVariants.{Missing}
+use Rattle.session.specs.Tests.{refusal_number}
 use Rattle.session.specs.Session.{Run}
+use Rattle.table.specs.Whole.{open_by_table, whole_step}
 
 -- ---- the input
 
@@ -82,3 +88,47 @@ run_in b = record {
 -- a frame: the time, then the first n places of the state, as doubles
 unfoldable pub frame : ℕ → Float → List Float → List ℕ
 frame n time state = doubles_bytes (time ∷ take n state)
+
+-- how a run goes: the bytes of its frames, and by what it is refused, if it is
+pub record Course : Type 0 where
+  pub frames : List ℕ
+  pub refusal : Option Refusal
+
+-- all steps are made
+abbrev pub finished : Course
+finished = record { frames = []; refusal = None }
+
+-- refused, with no frame any more
+abbrev pub ends_by : Refusal → Course
+ends_by refusal = record { frames = []; refusal = Some refusal }
+
+-- a frame, and what comes then
+abbrev pub framed : List ℕ → Course → Course
+framed bytes next = record { frames = bytes ++ next.frames; refusal = next.refusal }
+
+-- where a call is not refused, the run goes on
+unfoldable pub unless_refused : Result Answer Refusal → Course → Course
+unless_refused (Ok answer) next = next
+unless_refused (Err refusal) next = ends_by refusal
+
+-- so many whole steps from a session on, each by the input's table and step; a frame for each
+unfoldable pub steps_by : List ℕ → ℕ → Session → Course
+steps_by b zero s = finished
+steps_by b (suc k) s =
+    let told = whole_step s (table_in b) (step_in b) in
+    unless_refused told.answer (framed (frame (size_in b) told.session.time told.session.state) (steps_by b k told.session))
+
+-- the run of an input: 1 if it is cut short of its table; what the opening is refused by; then its steps
+unfoldable pub course_of : List ℕ → Course
+course_of b =
+    let told = open_by_table (run_in b) (table_in b) in
+    cond (reaches_table b) (unless_refused told.answer (steps_by b (steps_in b) told.session)) (ends_by Why.Places)
+
+-- a refusal's byte
+unfoldable pub last_byte : Option Refusal → List ℕ
+last_byte None = []
+last_byte (Some refusal) = refusal_number refusal ∷ []
+
+-- all that is written: the frames, and the refusal
+unfoldable pub written : Course → List ℕ
+written c = c.frames ++ last_byte c.refusal

@@ -1,7 +1,7 @@
 // The input where its bytes stand: its fields, and the run that it opens.
 ghost use Rattle.std.specs.Prelude.{◌≡◌, ◌⊎◌, true, false, ◌+◌, ◌*◌, ◌≤◌, ◌<◌, length, MatchOption};
 ghost use Rattle.evaluation.specs.Sizes.{places};
-ghost use Rattle.session.specs.Lent.{remains, lent_open};
+ghost use Rattle.session.specs.Lent.{told_by};
 ghost use Rattle.table.specs.Whole.{open_by_table};
 ghost use Rattle.sonde.specs.Frames.{size_in, scheme_in, steps_in, time_in, step_in, relative_in, state_from, table_from, vector_in, table_in, reaches_table, run_in};
 
@@ -134,7 +134,7 @@ impl<'a> Input<'a> {
 
     // Opens the run by the table.
     pub fn open(&self, figures: &mut Figures) -> Left
-        ensures { remains result figures.new ≡ lent_open true figures.old (open_by_table (run_in self.now.bytes.now) (table_in self.now.bytes.now)) }
+        ensures { told_by result figures.new ≡ open_by_table (run_in self.now.bytes.now) (table_in self.now.bytes.now) }
     {
         let absolute = self.vector(ABSOLUTE_AT);
         let state = self.vector(state_at(self.n));

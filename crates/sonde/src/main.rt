@@ -2,14 +2,15 @@
 // its whole steps one by one, each with a frame. A refusal is one byte, its number, and ends the run.
 #![tactic(auto)]
 
-ghost use Rattle.std.specs.Prelude.{◌≡◌, length, take, IfOk, OnOk, IfSome};
+ghost use Rattle.std.specs.Prelude.{◌≡◌, [], ◌∷◌, length, take, IfOk, OnOk, IfSome};
 ghost use Rattle.std.specs.Io.KnownBytes.{Appends, IsAtEnd};
 ghost use Rattle.std.specs.Process.{exit_status};
 ghost use Rattle.loops.specs.Loop.{◌!◌};
 ghost use Rattle.evaluation.specs.Sizes.{places};
-ghost use Rattle.session.specs.Figures.{time_at, state_at, part};
-ghost use Rattle.sonde.specs.Frames.{frame};
-ghost use Rattle.sonde.specs.Ends.{status};
+ghost use Rattle.session.specs.Tests.{refusal_number};
+ghost use Rattle.session.specs.Figures.{time_at, state_at, part, session_of};
+ghost use Rattle.sonde.specs.Frames.{steps_in, frame, steps_by, course_of};
+ghost use Rattle.sonde.specs.Ends.{status, Made, Ended, AllRead};
 
 mod input;
 
@@ -22,25 +23,34 @@ use std::io;
 use std::io::{Read, Write};
 use std::process::ExitCode;
 
-// Why a run ends before its last step: it is refused, or its output takes no more.
+// Why a run ends before its last step is made: it is refused, or its output takes no more.
+#[derive(Clone, Copy)]
 enum Stop {
     Refused(Refusal),
     Closed,
 }
 
 impl From<Refusal> for Stop {
+    ghost use Rattle.sonde.specs.declared.Stop.{Stop};
+
+    ghost from_gives = { λ refusal stop. stop ≡ Stop.Refused refusal };
+
     fn from(refusal: Refusal) -> Stop {
         Stop::Refused(refusal)
     }
 }
 
 impl From<io::Error> for Stop {
+    ghost use Rattle.sonde.specs.declared.Stop.{Stop};
+
+    ghost from_gives = { λ _ stop. stop ≡ Stop.Closed };
+
     fn from(_unwritten: io::Error) -> Stop {
         Stop::Closed
     }
 }
 
-// How the program ends: with all steps made; with a refusal; with the refusal 1, its input being one that cannot be read; where its output takes no more.
+// How the program ends: every step is made; the run is refused; the input cannot be read, which is refused by 1; the output takes no more.
 #[derive(Clone, Copy)]
 pub enum Ending {
     Finished,
@@ -61,7 +71,8 @@ impl From<Ending> for ExitCode {
     }
 }
 
-// Reads the input to its end: its first bytes, as many as are kept.
+// Reads the input to its end, and keeps its first bytes.
+// Kept: the loan is written out, for std says nothing of what `by_ref` lends.
 fn read<R: Read>(input: &mut R) -> io::Result<ArrayVec<u8, KEPT>>
     ensures kept { IfOk result (λ kept. IfSome (R.remaining input.old) (λ b. kept.items ≡ take KEPT b)) }
     ensures all { OnOk result (IsAtEnd (R.remaining input.new)) }
@@ -73,7 +84,7 @@ fn read<R: Read>(input: &mut R) -> io::Result<ArrayVec<u8, KEPT>>
     Ok(kept)
 }
 
-// Writes a frame: the session's time and n states.
+// Writes a frame, the session's time and n of its states, and hands it on.
 fn write_frame<W: Write>(output: &mut W, n: Dimension, figures: &Figures) -> io::Result<()>
     ensures { OnOk result (Appends (W.contents output.old) (W.contents output.new) (frame n (figures.now ! time_at) (part figures.now state_at places))) }
 {
@@ -82,21 +93,25 @@ fn write_frame<W: Write>(output: &mut W, n: Dimension, figures: &Figures) -> io:
     output.flush()
 }
 
-// Writes a refusal: its number.
-fn write_refusal<W: Write>(output: &mut W, refusal: Refusal) -> io::Result<()> {
+// Writes a refusal, its number as a byte, and hands it on.
+fn write_refusal<W: Write>(output: &mut W, refusal: Refusal) -> io::Result<()>
+    ensures { OnOk result (Appends (W.contents output.old) (W.contents output.new) (refusal_number refusal ∷ [])) }
+{
     output.write_all(&[u8::from(refusal)])?;
     output.flush()
 }
 
-// Makes the whole steps, each with a frame.
+// Makes the whole steps of a session that rests, and writes the frame of each.
 fn write_steps<W: Write>(
     output: &mut W,
     input: &Input<'_>,
-    head: Head,
+    mut head: Head,
     figures: &mut Figures,
-) -> Result<(), Stop> {
-    let mut head = head;
-    for _ in 0..input.steps() {
+) -> Result<(), Stop>
+    ensures { Made (steps_by input.now.bytes.now (steps_in input.now.bytes.now) (session_of head figures.old)) (W.contents output.old) (W.contents output.new) result }
+{
+    let steps = input.steps();
+    for _ in 0..steps {
         let left = table::whole_step(head, figures, input.table(), input.step());
         left.answer?;
         head = left.head;
@@ -105,8 +120,10 @@ fn write_steps<W: Write>(
     Ok(())
 }
 
-// Makes the run that these bytes of input tell of.
-fn write_run<W: Write>(output: &mut W, bytes: &[u8]) -> Result<(), Stop> {
+// Makes the run of an input, and writes its frames.
+fn write_run<W: Write>(output: &mut W, bytes: &[u8]) -> Result<(), Stop>
+    ensures { Made (course_of bytes.now) (W.contents output.old) (W.contents output.new) result }
+{
     let Some(input) = Input::new(bytes) else {
         return Err(Stop::Refused(Refusal::Places));
     };
@@ -116,8 +133,12 @@ fn write_run<W: Write>(output: &mut W, bytes: &[u8]) -> Result<(), Stop> {
     write_steps(output, &input, left.head, &mut figures)
 }
 
-// The program: nothing is written before the input is read to its end.
-pub fn run<R: Read, W: Write>(pipe: &mut Pipe<R, W>) -> Ending {
+// The program: the input is read to its end before anything is written, so that nobody who writes it is cut off. Where its bytes are known, and the
+// output tells its own, the clauses say all that is written.
+pub fn run<R: Read, W: Write>(pipe: &mut Pipe<R, W>) -> Ending
+    ensures written { IfSome (R.remaining pipe.old.input) (λ b. Ended (course_of b) (W.contents pipe.old.output) (W.contents pipe.new.output) result) }
+    ensures all { AllRead (R.remaining pipe.new.input) result }
+{
     let Ok(bytes) = read(&mut pipe.input) else {
         return match write_refusal(&mut pipe.output, Refusal::Places) {
             Ok(()) => Ending::Unread,
@@ -134,7 +155,7 @@ pub fn run<R: Read, W: Write>(pipe: &mut Pipe<R, W>) -> Ending {
     }
 }
 
-// Where no memory is left for the buffers, the streams stand without.
+// Where no memory is left for the buffers, the streams stand without. Their bytes are no clause's.
 fn main(rt: HostRuntime) -> ExitCode {
     let ending = match pipe::standard(rt.alloc(), rt.stdin(), rt.stdout()) {
         Ok(mut pipe) => run(&mut pipe),
