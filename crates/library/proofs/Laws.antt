@@ -3,7 +3,8 @@ use denote.Enum.Bare.{sameb}
 use Rattle.image.specs.contracts.Outcome.{the_type}
 use Rattle.image.specs.declared.Outcome.{Outcome}
 use Rattle.image.specs.declared.Outcome.TheVariants as outcome
-use Rattle.std.proofs.Common.{◌≢◌, Option, Some, None, Bor, ◌≡◌, refl, sym, ap, ◌∙◌, Bool, true, false, cond, ◌&&◌, List, [], ◌∷◌, eqb, Float, length, get_or, ℕ, eqb-true, eq-eqb}
+use Rattle.std.proofs.Common.{◌≢◌, Option, Some, None, Bor, ◌≡◌, refl, sym, ap, ◌∙◌, Bool, true, false, cond, ◌&&◌, List}
+use Rattle.std.proofs.Common.{[], ◌∷◌, eqb, Float, length, get_or, ℕ, eqb-true, eq-eqb}
 use Rattle.std.specs.Option.{MatchOption}
 use Rattle.std.specs.Array.{IsWholeChunk}
 use Rattle.loops.specs.Loop.{tab, from}

@@ -12,4 +12,5 @@ returns c =
     let a = c.args in
     let pattern : c.from_le_bytes.result ≡ word64 c.unwrap.result.now 0 = unfold word16 word32 word64 in omega arith in
     let eight : a.i + 8 - a.i ≡ 8 = omega arith in
-    c.f64_from_bits_with_nan.ensures ∙ ap (of_bits binary64) (pattern ∙ ap (λ b. word64 b 0) (w.same ∙ ap (λ (n : ℕ). take n (drop a.i a.b.now)) eight) ∙ word64_from a.b.now a.i 8 (omega arith))
+    let there = ap (λ b. word64 b 0) (w.same ∙ ap (λ (n : ℕ). take n (drop a.i a.b.now)) eight) ∙ word64_from a.b.now a.i 8 (omega arith) in
+    c.f64_from_bits_with_nan.ensures ∙ ap (of_bits binary64) (pattern ∙ there)
