@@ -1,6 +1,6 @@
 -- What is past the bytes that are kept of an input does not count: a table that goes so far is too long. Assumes nothing.
-use Rattle.std.proofs.Common.{inl, inr, ℕ, ◌+◌, ◌*◌, ◌/◌, ◌%◌, ◌≤◌, ◌<◌, arith, ◌≡◌, refl, sym, ap, ◌∙◌, Bool, true, false, cond, ◌&&◌, leb}
-use Rattle.std.proofs.Common.{eqb, List, [], ◌∷◌, length, take, drop, replicate, length-drop, length-take-le, take_all}
+use Rattle.std.proofs.Common.{inl, inr, ℕ, ◌+◌, ◌*◌, ◌/◌, ◌%◌, ◌≤◌, ◌<◌, arith, ◌≡◌, refl, sym, ap, ◌∙◌}
+use Rattle.std.proofs.Common.{Bool, true, false, cond, ◌&&◌, leb, eqb, List, [], ◌∷◌, length, take, drop, replicate, length-drop, length-take-le, take_all}
 use Rattle.std.proofs.lemmas.Bool.{eqb-true, leb-true, le-leb}
 use Rattle.std.proofs.lemmas.List.{get_or-take}
 use Rattle.std.specs.Prelude.{Result, Ok, Err, ⊤, ◌⊎◌, None}
@@ -53,8 +53,9 @@ module _ (b : List ℕ) where
   run_kept : size_in b ≤ places → run_in (take KEPT b) ≡ run_in b
   unfolding run_in scheme_in time_in relative_in
   run_kept small =
-      let absolute = vector_kept (size_in b) absolute_from (omega (arith, small)) in
-      let state = vector_kept (size_in b) (state_from (size_in b)) (omega (arith, small)) in
+      let n = size_in b in
+      let absolute = vector_kept n absolute_from (omega (arith, small)) in
+      let state = vector_kept n (state_from n) (omega (arith, small)) in
       rw (size_kept, byte_kept 1 (omega arith), double_kept 4 (omega arith), double_kept 20 (omega arith), absolute, state)
 
 -- ---- a table that is too long

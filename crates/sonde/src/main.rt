@@ -166,3 +166,63 @@ fn main(rt: HostRuntime) -> ExitCode {
     };
     ExitCode::from(ending)
 }
+
+#[cfg(test)]
+mod tests {
+    use super::*;
+    use std::test::Fail;
+
+    // n = 1 by NorsettEuler: two steps of 1 from time 0 and state 1, where u' = 2.
+    const INPUT: [u8; 60] = [
+        1, 1, 2, 0, 0, 0, 0, 0, 0, 0, 0, 0, 0, 0, 0, 0, 0, 0, 0xf0, 0x3f, 0, 0, 0, 0, 0, 0, 0xf0,
+        0x3f, 0, 0, 0, 0, 0, 0, 0xf0, 0x3f, 0, 0, 0, 0, 0, 0, 0xf0, 0x3f, 0, 0, 0, 0, 0, 0, 0, 0,
+        0, 0, 0, 0, 0, 0, 0, 0x40,
+    ];
+
+    // A reader of which every read fails.
+    #[derive(Drop)]
+    struct Broken;
+
+    impl Read for Broken {
+        fn read(&mut self, _b: &mut [u8]) -> io::Result<usize> {
+            Err(io::Error::from(io::ErrorKind::Other))
+        }
+    }
+
+    // A read that fails in the head, before the table, in it or behind it: 1, and no run of what came before.
+    #[test]
+    fn reads_fail(rt: HostRuntime) -> Result<(), Fail> {
+        for came in [0, 27, 44, 59, 60] {
+            let mut pipe = Pipe {
+                input: INPUT[..came].chain(Broken),
+                output: Vec::new(rt.alloc()),
+            };
+            assert!(rt; matches!(run(&mut pipe), Ending::Unread), "after {came}");
+            assert_eq!(rt; pipe.output.as_slice(), [1u8].as_slice(), "after {came}");
+        }
+        Ok(())
+    }
+
+    // An output that is full before the last frame is whole; and one that takes both: time 1 and state 3, time 2 and state 5.
+    #[test]
+    fn outputs_end(rt: HostRuntime) -> Result<(), Fail> {
+        let mut room = [0u8; 32];
+        for taken in [0, 15, 31] {
+            let mut pipe = Pipe {
+                input: INPUT.as_slice(),
+                output: &mut room[..taken],
+            };
+            assert!(rt; matches!(run(&mut pipe), Ending::Closed), "after {taken}");
+        }
+        let mut pipe = Pipe {
+            input: INPUT.as_slice(),
+            output: room.as_mut_slice(),
+        };
+        assert!(rt; matches!(run(&mut pipe), Ending::Finished));
+        let mut frames = room.as_slice();
+        for figure in [1.0, 3.0, 2.0, 5.0] {
+            assert_eq!(rt; wire::get_f64(&mut frames)?, figure);
+        }
+        Ok(())
+    }
+}
