@@ -29,7 +29,7 @@ fn files(folder: &Path, found: &mut Vec<PathBuf>) {
 fn all_files() -> Vec<PathBuf> {
     let root = root();
     let mut found = Vec::new();
-    for folder in ["crates", "oracle", "host", "docs", "logging_pass", "bench"] {
+    for folder in ["crates", "oracle", "host", "sonde_table", "docs", "logging_pass", "bench"] {
         files(&root.join(folder), &mut found);
     }
     // The pages on the port and on the design pass quote names that are gone.

@@ -1,5 +1,6 @@
 -- Mirrored calls: the same answer, mirrored sessions, mirrored outputs. Assumes nothing.
-use Rattle.std.proofs.Common.{ℕ, ◌≤◌, ◌<◌, arith, ◌≡◌, refl, sym, ap, ap₂, ◌∙◌, subst, subst₂, Bool, true, false, cond, ◌&&◌, true≢false, List, [], ◌++◌, eqb, leb, Float, length}
+use Rattle.std.proofs.Common.{ℕ, ◌≤◌, ◌<◌, arith, ◌≡◌, refl, sym, ap, ap₂, ◌∙◌, subst, subst₂, Bool, true, false, cond}
+use Rattle.std.proofs.Common.{◌&&◌, true≢false, List, [], ◌++◌, eqb, leb, Float, length}
 use Rattle.std.proofs.Math.Decide.{dec_lt}
 use Rattle.std.proofs.Math.Bool.{and-false, false≢true}
 use borrow.Author.Tests.{lt-leb}

@@ -576,7 +576,8 @@ pub fn no_head() -> Head
 
 // ---- the calls over lent figures, once their lengths are tested: what is tested, what is worked out, what of the session changes
 
-fn refused(k: Head, refusal: Refusal) -> Left
+// Refused, with the head as it came.
+pub fn refused(k: Head, refusal: Refusal) -> Left
     ensures { result ≡ refused_by k refusal }
 {
     Left {

@@ -17,24 +17,24 @@ const SIZE_AT: usize = 0;
 
 const SCHEME_AT: usize = 1;
 
-const STEPS_AT: usize = 2;
+const STEPS_FROM: usize = 2;
 
-const TIME_AT: usize = 4;
+const TIME_FROM: usize = 4;
 
-const STEP_AT: usize = 12;
+const STEP_FROM: usize = 12;
 
-const RELATIVE_AT: usize = 20;
+const RELATIVE_FROM: usize = 20;
 
-const ABSOLUTE_AT: usize = 28;
+const ABSOLUTE_FROM: usize = 28;
 
 // How much of an input is kept: the longest one that is good, and a byte, which tells one that is longer.
-pub const KEPT: usize = ABSOLUTE_AT + 2 * DOUBLE * PLACES + table::RECORD * table::RECORDS + 1;
+pub const KEPT: usize = ABSOLUTE_FROM + 2 * DOUBLE * PLACES + table::RECORD * table::RECORDS + 1;
 
 // Where the n states begin.
 fn state_at(n: Dimension) -> usize
     ensures { result ≡ state_from n }
 {
-    ABSOLUTE_AT + DOUBLE * n.get()
+    ABSOLUTE_FROM + DOUBLE * n.get()
 }
 
 // Where the table begins.
@@ -92,28 +92,28 @@ impl<'a> Input<'a> {
     pub fn steps(&self) -> u16
         ensures { result ≡ steps_in self.now.bytes.now }
     {
-        u16::from_le_bytes([self.bytes[STEPS_AT], self.bytes[STEPS_AT + 1]])
+        u16::from_le_bytes([self.bytes[STEPS_FROM], self.bytes[STEPS_FROM + 1]])
     }
 
     #[tactic(auto, unfolding(crate::specs::Frames::time_in))]
     fn time(&self) -> f64
         ensures { result ≡ time_in self.now.bytes.now }
     {
-        wire::f64_at(self.bytes, TIME_AT)
+        wire::f64_at(self.bytes, TIME_FROM)
     }
 
     #[tactic(auto, unfolding(crate::specs::Frames::step_in))]
     pub fn step(&self) -> f64
         ensures { result ≡ step_in self.now.bytes.now }
     {
-        wire::f64_at(self.bytes, STEP_AT)
+        wire::f64_at(self.bytes, STEP_FROM)
     }
 
     #[tactic(auto, unfolding(crate::specs::Frames::relative_in))]
     fn relative(&self) -> f64
         ensures { result ≡ relative_in self.now.bytes.now }
     {
-        wire::f64_at(self.bytes, RELATIVE_AT)
+        wire::f64_at(self.bytes, RELATIVE_FROM)
     }
 
     // The n doubles from place `from` on.
@@ -136,7 +136,7 @@ impl<'a> Input<'a> {
     pub fn open(&self, figures: &mut Figures) -> Left
         ensures { told_by result figures.new ≡ open_by_table (run_in self.now.bytes.now) (table_in self.now.bytes.now) }
     {
-        let absolute = self.vector(ABSOLUTE_AT);
+        let absolute = self.vector(ABSOLUTE_FROM);
         let state = self.vector(state_at(self.n));
         table::open_by_table(
             self.scheme(),

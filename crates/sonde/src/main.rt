@@ -134,7 +134,7 @@ fn write_run<W: Write>(output: &mut W, bytes: &[u8]) -> Result<(), Stop>
 }
 
 // The program: the input is read to its end before anything is written, so that nobody who writes it is cut off. Where its bytes are known, and the
-// output tells its own, the clauses say all that is written.
+// output tells its own, the clauses say all that is written of a run that ends finished or refused.
 pub fn run<R: Read, W: Write>(pipe: &mut Pipe<R, W>) -> Ending
     ensures written { IfSome (R.remaining pipe.old.input) (λ b. Ended (course_of b) (W.contents pipe.old.output) (W.contents pipe.new.output) result) }
     ensures all { AllRead (R.remaining pipe.new.input) result }

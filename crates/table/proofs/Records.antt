@@ -35,12 +35,9 @@ module _ (n : ℕ) (t : List ℕ) (r : ℕ) (ok : record_ok n t r ≡ true) wher
 
 -- ---- a table
 
--- a whole record stands in the table, and so do all of them
+-- a whole record stands in the table
 pub record_fits : (t : List ℕ) (r : ℕ) → r < length t / record_bytes → record_bytes * r + record_bytes ≤ length t
 record_fits t r h = omega (arith, h)
-
-pub records_fit : (t : List ℕ) → record_bytes * (length t / record_bytes) ≤ length t
-records_fit t = omega arith
 
 pub table_records : (n : ℕ) (t : List ℕ) → table_ok n t ≡ true → every (length t / record_bytes) (record_ok n t) ≡ true
 unfolding table_ok records

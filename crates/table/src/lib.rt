@@ -9,7 +9,7 @@ ghost use Rattle.session.specs.Tests.{tested};
 ghost use Rattle.session.specs.Values.{is_refused};
 ghost use Rattle.session.specs.Calls.{outcome, tell, drop_call};
 ghost use Rattle.session.specs.Figures.{FIGURES, session_of};
-ghost use Rattle.session.specs.Lent.{told_by, refused_by, remains, lent_call, lent_open};
+ghost use Rattle.session.specs.Lent.{told_by, remains, lent_call, lent_open};
 ghost use Rattle.table.specs.Table.{record_ok, table_ok, records, value, derivative};
 ghost use Rattle.table.specs.Whole.{open_by_table, whole_tests, replied, answers, accepted, stepped, keeping, whole_step};
 
@@ -99,15 +99,6 @@ impl<'a> Table<'a> {
 
 // ---- a run by a table
 
-fn refused(k: Head, refusal: Refusal) -> Left
-    ensures { result ≡ refused_by k refusal }
-{
-    Left {
-        answer: Err(refusal),
-        head: k,
-    }
-}
-
 fn open_over(
     scheme: u8,
     n: usize,
@@ -139,7 +130,7 @@ fn open_over(
         return first;
     }
     let Some(table) = Table::new(Dimension::new(n), bytes) else {
-        return refused(session::put_nothing(figures), Refusal::Table);
+        return session::refused(session::put_nothing(figures), Refusal::Table);
     };
     let mut slope = still;
     table.derivative(time, state, &mut slope);
@@ -175,10 +166,10 @@ pub fn open_by_table(
         }) bytes.now) }
 {
     let (Some(absolute), Some(state)) = (absolute.as_array(), state.as_array()) else {
-        return refused(session::no_head(), Refusal::Places);
+        return session::refused(session::no_head(), Refusal::Places);
     };
     let Some(figures) = figures.as_mut_array() else {
-        return refused(session::no_head(), Refusal::Places);
+        return session::refused(session::no_head(), Refusal::Places);
     };
     open_over(scheme, n, time, relative, absolute, state, bytes, figures)
 }
@@ -301,11 +292,11 @@ pub fn whole_step(k: Head, figures: &mut [f64], bytes: &[u8], step: f64) -> Left
     ensures { remains result figures.new ≡ lent_call (eqb (length figures.old) FIGURES) k figures.old (λ s. whole_step s bytes.now «step») }
 {
     let Some(figures) = figures.as_mut_array() else {
-        return refused(k, Refusal::Places);
+        return session::refused(k, Refusal::Places);
     };
     let table = match test_whole(k, figures, bytes, step) {
         Ok(table) => table,
-        Err(refusal) => return refused(k, refusal),
+        Err(refusal) => return session::refused(k, refusal),
     };
     let mut left = table.step(k, figures, step);
     keep(&mut left, figures);
