@@ -44,8 +44,8 @@ fn table_ok(n: usize, bytes: &[u8]) -> bool
 // A well-formed table for n components, over bytes that are lent.
 #[derive(Clone, Copy)]
 pub struct Table<'a> {
-    n: Dimension,
-    bytes: &'a [u8],
+    pub n: Dimension,
+    pub bytes: &'a [u8],
     ghost small: { n ≤ places },
     ghost well_formed: { table_ok n bytes.now ≡ true },
 }
