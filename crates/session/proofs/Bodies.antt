@@ -13,13 +13,13 @@ use Rattle.session.specs.declared.Answer.{Answer}
 use Rattle.session.specs.declared.Wish.{Wish}
 use Rattle.session.specs.declared.Phase.TheVariants.{Rest, Asking}
 use Rattle.session.specs.Tests.{tested, condition, unless}
-use Rattle.session.specs.Session.{Sound, clear, used_jacobian, admits, good7, session_tests, progress}
+use Rattle.session.specs.Session.{Sound, clear, used_jacobian, admits, names, good7, good9, session_tests, progress}
 use Rattle.session.specs.Claims.{Closed, Typed}
 use Rattle.session.specs.Calls.{Outcome, outcome, tell, refuse_lent, opened, nothing, begun, rested, answered, shown}
 use Rattle.session.specs.Calls.{attempt_tests, begin_tests, supply_tests, begin_call, supply_call}
 use Rattle.session.specs.Figures.{FIGURES, session_of, head_of, figures_of}
 use Rattle.session.specs.Lent.{told_by, refused_by, Remains, remains, left, fills, lent_call, lent_open, lent_fill}
-use Rattle.session.proofs.Laws.{passed_sound, wants_more, few_answers, begin_passes, begin_length, supply_passes, vector_length, attempt_row, begun_sound, answered_sound}
+use Rattle.session.proofs.Laws.{passed_sound, wants_more, open_named, few_answers, begin_passes, begin_length, supply_passes, vector_length, attempt_row, begun_sound, answered_sound}
 use Rattle.session.proofs.Closed.{passed_good, good_closed, begun_good}
 use Rattle.session.proofs.Inverse.{figures_back}
 use Rattle.session.proofs.Drops.{rested_same}
@@ -53,7 +53,7 @@ module _ (s : Session) (step : Float) (w : Wish) (j out : List Float) {k : Resul
       begin_sound = subst Sound (sym same) (begun_sound s step w j (passed_sound (Some Rest) s begin_rests))
 
       pub begin_any : tested (session_tests None next) ≡ Ok tt
-      unfolding Closed good7 admits
+      unfolding Closed good7 good9 admits names
       begin_any =
           ap (λ (r : Session). tested (session_tests None r)) same
           ∙ good_closed (begun_good s step w j (length out) (passed_good (Some Rest) s begin_rests) begin_attempt) None
@@ -77,32 +77,33 @@ module _ (s : Session) (step : Float) (w : Wish) (j out : List Float) {k : Resul
 
 -- ---- supply
 
-module _ (s : Session) (x out : List Float) {k : Result ⊤ Refusal} (e : k ≡ tested (supply_tests s x (length out))) where
+module _ (s : Session) (place : ℕ) (x out : List Float) {k : Result ⊤ Refusal} (e : k ≡ tested (supply_tests s place x (length out))) where
   pub supply_refused : {why : Refusal} → k ≡ Err why → {l : Left} (y : List Float) (n : Head) → l ≡ refused_by n why → session_of n y ≡ s
-      → outcome (told_by l y) out ≡ supply_call s x out
+      → outcome (told_by l y) out ≡ supply_call s place x out
   unfolding supply_call unless
   supply_refused h y n f g = rw (f, g, ← e, h)
 
   module _ (z : k ≡ Ok tt) where
-    pub supply_asks : tested (session_tests (Some Asking) s) ≡ Ok tt
-    supply_asks = (supply_passes s x (length out) (sym e ∙ z)).0
+    pub supply_asks : tested (session_tests (Some (Asking s.count)) s) ≡ Ok tt
+    supply_asks =
+        let p = (supply_passes s place x (length out) (sym e ∙ z)).0 in subst (λ (q : ℕ). tested (session_tests (Some (Asking q)) s) ≡ Ok tt) (open_named s place p) p
 
     pub supply_early : s.count < answers_kept
-    supply_early = few_answers s supply_asks
+    supply_early = few_answers s s.count supply_asks
 
     pub supply_room : length out ≡ s.n
-    supply_room = vector_length s.n x (length out) (supply_passes s x (length out) (sym e ∙ z)).1
+    supply_room = vector_length s.n x (length out) (supply_passes s place x (length out) (sym e ∙ z)).1
 
     module _ (next : Session) (same : next ≡ answered s x) where
       pub supply_sound : Sound next
-      supply_sound = subst Sound (sym same) (answered_sound s x (passed_sound (Some Asking) s supply_asks) (wants_more s supply_asks))
+      supply_sound = subst Sound (sym same) (answered_sound s x (passed_sound (Some (Asking s.count)) s supply_asks) (wants_more s s.count supply_asks))
 
-      pub supply_shown : (answer : Answer) {out' : List Float} → outcome (tell answer next) out' ≡ shown s next out (progress next) → outcome (tell answer next) out' ≡ supply_call s x out
+      pub supply_shown : (answer : Answer) {out' : List Float} → outcome (tell answer next) out' ≡ shown s next out (progress next) → outcome (tell answer next) out' ≡ supply_call s place x out
       unfolding supply_call unless
       supply_shown answer f = rw (← e, z, ← same) f
 
       pub supply_six : {out' : List Float} → refuse_lent s out' Why.Arithmetic ≡ shown s next out (progress next)
-          → {l : Left} (y : List Float) (n : Head) → l ≡ refused_by n Why.Arithmetic → session_of n y ≡ s → outcome (told_by l y) out' ≡ supply_call s x out
+          → {l : Left} (y : List Float) (n : Head) → l ≡ refused_by n Why.Arithmetic → session_of n y ≡ s → outcome (told_by l y) out' ≡ supply_call s place x out
       unfolding supply_call unless
       supply_six f y n g d = rw (g, d, ← e, z, ← same) f
 

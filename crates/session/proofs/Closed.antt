@@ -1,4 +1,4 @@
--- A session that an accepted call returns is refused by nothing but 7. Assumes nothing.
+-- A session that an accepted call returns is refused by nothing but 7 and 9. Assumes nothing.
 use Rattle.std.proofs.Common.{ℕ, ◌+◌, ◌<◌, arith, ◌≡◌, refl, sym, subst, ◌⊎◌, inl, inr, Bool, true, false, cond, ◌&&◌, List, [], ◌∷◌, ltb, leb, eqb, Float, length, le-leb}
 use Rattle.std.proofs.Math.Decide.{ℕ_discrete}
 use Rattle.std.proofs.Math.Bool.{false≢true}
@@ -302,7 +302,7 @@ moved_good s time x f g good t X G e =
 -- ---- a call that is accepted
 
 -- a refusal has a number
-not_refused : {A : Type 0} (why : Refusal) → number (Err why) ≡ 0 → A
+pub not_refused : {A : Type 0} (why : Refusal) → number (Err why) ≡ 0 → A
 unfolding number values_of
 not_refused why e = some_number why e
 
@@ -347,14 +347,14 @@ begin_good s step w j o =
     let p = begin_passes s step (Some w) j (length o) e in
     shown_good s next o (progress next) (begun_good s step w j (length o) (passed_good (Some Rest) s p.0) p.1))
 
-supply_good : (s : Session) (x o : List Float) → length x ≡ places → number (supply_call s x o).told.answer ≡ 0 → Good (supply_call s x o).told.session
+supply_good : (s : Session) (place : ℕ) (x o : List Float) → length x ≡ places → number (supply_call s place x o).told.answer ≡ 0 → Good (supply_call s place x o).told.session
 unfolding supply_call
-supply_good s x o sixteen =
+supply_good s place x o sixteen =
     let next = answered s x in
-    lent_good (tested (supply_tests s x (length o))) s o (shown s next o (progress next)) (λ e.
-    let p = supply_passes s x (length o) e in
+    lent_good (tested (supply_tests s place x (length o))) s o (shown s next o (progress next)) (λ e.
+    let p = supply_passes s place x (length o) e in
     shown_good s next o (progress next)
-    (answered_good s x (eqb (length o) s.n) sixteen (passed_good (Some Asking) s p.0) (wants_more s p.0) p.1))
+    (answered_good s x (eqb (length o) s.n) sixteen (passed_good (Some (Asking place)) s p.0) (wants_more s place p.0) p.1))
 
 accept_good : (s : Session) (f : List Float) → number (accept_call s f).answer ≡ 0 → Good (accept_call s f).session
 unfolding accept_call
@@ -371,10 +371,10 @@ first_good : (s : Session) (largest : Float) → number (first_step_call s large
 unfolding first_step_call
 first_good s largest = told_good (tested (first_step_tests s largest)) s _ (λ e _. passed_good None s (first_step_passes s largest e))
 
-performed_good : (c : Call) (s : Session) → TypedCall c → number (perform c s).told.answer ≡ 0 → Good (perform c s).told.session
+pub performed_good : (c : Call) (s : Session) → TypedCall c → number (perform c s).told.answer ≡ 0 → Good (perform c s).told.session
 unfolding perform TypedCall
 performed_good (begin step w j o) s t = begin_good s step w j o
-performed_good (supply x o) s t = supply_good s x o t
+performed_good (supply place x o) s t = supply_good s place x o t
 performed_good (accept f) s t = accept_good s f
 performed_good drop s t = drop_good s
 performed_good (first_step largest) s t = first_good s largest
@@ -387,7 +387,7 @@ kept_or_accepted c s = go (ℕ_discrete (number (perform c s).told.answer) 0)
   where
     same : (c : Call) → (number (perform c s).told.answer ≡ 0 → ⊥) → (perform c s).told.session ≡ s
     same (begin step w j o) n = unfold perform Unchanged in (refusals.begin s step w j o n).0
-    same (supply x o) n = unfold perform Unchanged in (refusals.supply s x o n).0
+    same (supply place x o) n = unfold perform Unchanged in (refusals.supply s place x o n).0
     same (accept f) n = unfold perform Kept in refusals.accept s f n
     same drop n = unfold perform Kept in refusals.drop s n
     same (first_step largest) n = unfold perform Kept in refusals.first_step s largest n

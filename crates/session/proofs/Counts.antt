@@ -81,16 +81,16 @@ sound_counted old s o r = shown_counted old s o (progress s) r.enough (progress_
 call_counted : (k : Result ⊤ Refusal) (s : Session) (o : List Float) (r : Outcome) → (k ≡ Ok tt → Counted r.told) → Counted (unless k (refuse_lent s o) r).told
 call_counted k s o r h = unless_either k (refuse_lent s o) r (λ r. Counted r.told) (λ j. unfold Counted CountedBy in tt) h
 
-waiting_all : (a : Option Wish) (b : Bool) → 2 ≡ phase_number (phase_at a b) → b ≡ false
+waiting_all : (a : Option Wish) (place : ℕ) (b : Bool) → 2 ≡ phase_number (phase_at a place b) → b ≡ false
 unfolding phase_at phase_number
-waiting_all None b e = absurd (omega (arith, e))
-waiting_all (Some wish) true e = absurd (omega (arith, e))
-waiting_all (Some wish) false e = refl
+waiting_all None place b e = absurd (omega (arith, e))
+waiting_all (Some wish) place true e = absurd (omega (arith, e))
+waiting_all (Some wish) place false e = refl
 
 -- a session that accept takes has all its answers
 pub never_asking : (s : Session) → tested (session_tests (Some Waiting) s) ≡ Ok tt → (x : List Float) (t : Float) → progress s ≡ asking x t → ⊥
 never_asking s e x t p =
-    let full = ltb-false s.count (wanted_by s) (waiting_all s.attempt _ (unfold phase_of phase_number in in_phase Waiting s e)) in
+    let full = ltb-false s.count (wanted_by s) (waiting_all s.attempt s.count _ (unfold phase_of phase_number in in_phase Waiting s e)) in
     let less : s.count < wanted_by s = unfold CountedAt in subst (λ q. CountedAt q s.count (wanted_by s)) p (progress_counted s (passed_sound (Some Waiting) s e).small) in
     omega (arith, full, less)
 
@@ -103,10 +103,10 @@ counts = record {
       call_counted (tested (begin_tests s step (Some wish) jacobian _)) s out _ (λ e.
       let p = begin_passes s step (Some wish) jacobian _ e in
       sound_counted s next out (begun_sound s step wish jacobian (passed_sound (Some Rest) s p.0)));
-  supply = λ s answer out.
+  supply = λ s place answer out.
       let next = answered s answer in
-      call_counted (tested (supply_tests s answer _)) s out _ (λ e.
-      let p = supply_passes s answer _ e in
-      sound_counted s next out (answered_sound s answer (passed_sound (Some Asking) s p.0) (wants_more s p.0)));
+      call_counted (tested (supply_tests s place answer _)) s out _ (λ e.
+      let p = supply_passes s place answer _ e in
+      sound_counted s next out (answered_sound s answer (passed_sound (Some (Asking place)) s p.0) (wants_more s place p.0)));
   accept = never_asking;
 }

@@ -22,7 +22,7 @@ use Rattle.session.specs.declared.Phase.TheVariants.{Rest, Asking, Waiting}
 use Rattle.session.specs.Tests.{Tests, tested, condition, unless}
 use Rattle.session.specs.Values.{number, values_of}
 use Rattle.session.specs.Session.{jacobian_room, Trial, joined, run_of, trial_of, fresh, idle, clear, clear_answers, used_jacobian, step_clear, wanted, wanted_by}
-use Rattle.session.specs.Session.{phase_at, phase_of, phase_number, admits, size_ok, good1, good7, session_tests, progress}
+use Rattle.session.specs.Session.{phase_at, phase_of, phase_number, admits, names, size_ok, good1, good7, good9, session_tests, progress}
 use Rattle.session.specs.Calls.{Outcome, tell, refuse, refuse_lent, opened, nothing, begun, rested, answered, shown}
 use Rattle.session.specs.Calls.{begin_tests, supply_tests, accept_tests, first_step_tests, largest_tests, begin_call, supply_call, accept_call, drop_call, first_step_call}
 use Rattle.session.specs.Runs.{Call, begin, supply, accept, drop, first_step, perform, after}
@@ -34,11 +34,11 @@ use Rattle.session.proofs.Closed.{Good, passed_good, good_closed, after_good}
 
 -- ---- a session at rest has no attempt
 
-resting_none : (a : Option Wish) (b : Bool) → 0 ≡ phase_number (phase_at a b) → a ≡ None
+resting_none : (a : Option Wish) (place : ℕ) (b : Bool) → 0 ≡ phase_number (phase_at a place b) → a ≡ None
 unfolding phase_at phase_number
-resting_none None b e = refl
-resting_none (Some wish) true e = absurd (omega (arith, e))
-resting_none (Some wish) false e = absurd (omega (arith, e))
+resting_none None place b e = refl
+resting_none (Some wish) place true e = absurd (omega (arith, e))
+resting_none (Some wish) place false e = absurd (omega (arith, e))
 
 -- nothing is in use, so all is +0.0
 module _ (t : Trial) (none : t.attempt ≡ None) where
@@ -62,7 +62,7 @@ pub idle_trial : (s : Session) → Typed s → tested (session_tests (Some Rest)
 unfolding idle fresh
 idle_trial s t e =
     let g = passed_good (Some Rest) s e in
-    let none : s.attempt ≡ None = resting_none s.attempt (ltb s.count (wanted_by s)) (unfold phase_of phase_number in in_phase Rest s e) in
+    let none : s.attempt ≡ None = resting_none s.attempt s.count (ltb s.count (wanted_by s)) (unfold phase_of phase_number in in_phase Rest s e) in
     let count : s.count ≡ 0 = none_count (trial_of s) none s.scheme s.n (leb-true s.count (wanted_by s) g.count) in
     let step : s.step ≡ zero+ = plus_zero_is s.step t.step (none_step (trial_of s) none g.step) in
     let jacobian : s.jacobian ≡ replicate jacobian_room zero+ =
@@ -78,7 +78,7 @@ rested_same s t e = ap (joined (run_of s)) (sym (idle_trial s t e))
 -- ---- drop, where nothing is wrong with the session
 pub dropped : (s : Session) → Good s → drop_call s ≡ tell Resting (rested s)
 unfolding drop_call unless
-dropped s g = let e : tested (session_tests None s) ≡ Ok tt = unfold Closed good7 admits in good_closed g None in rw e
+dropped s g = let e : tested (session_tests None s) ≡ Ok tt = unfold Closed good7 good9 admits names in good_closed g None in rw e
 
 -- ---- the run stays as it was
 
@@ -93,10 +93,10 @@ shown-run old s o refused e = refl
 shown-run old s o (asking x t) e = e
 shown-run old s o (ended x d g w) e = e
 
-pub supply_run : (s : Session) (x o : List Float) → run_of (supply_call s x o).told.session ≡ run_of s
+pub supply_run : (s : Session) (place : ℕ) (x o : List Float) → run_of (supply_call s place x o).told.session ≡ run_of s
 unfolding supply_call
-supply_run s x o =
-    unless_either (tested (supply_tests s x (length o))) (refuse_lent s o) _ (λ r. run_of r.told.session ≡ run_of s) (λ j. refl)
+supply_run s place x o =
+    unless_either (tested (supply_tests s place x (length o))) (refuse_lent s o) _ (λ r. run_of r.told.session ≡ run_of s) (λ j. refl)
     (λ _. shown-run s (answered s x) o (progress (answered s x)) (answered-run s x))
 
 pub begin_run : (s : Session) (step : Float) (w : Wish) (j o : List Float) → run_of (begin_call s step w j o).told.session ≡ run_of s
@@ -106,10 +106,10 @@ begin_run s step w j o =
     unless_either (tested (begin_tests s step (Some w) j (length o))) (refuse_lent s o) _ (λ r. run_of r.told.session ≡ run_of s) (λ k. refl)
     (λ _. shown-run s next o (progress next) (unfold begun in refl))
 
-supplies-run : (answers : List (List Float × List Float)) (s : Session) → run_of (after s (supplies answers)) ≡ run_of s
+supplies-run : (answers : List (ℕ × (List Float × List Float))) (s : Session) → run_of (after s (supplies answers)) ≡ run_of s
 unfolding supplies after perform
 supplies-run [] s = refl
-supplies-run ((x, o) ∷ rest) s = supplies-run rest (supply_call s x o).told.session ∙ supply_run s x o
+supplies-run ((place, (x, o)) ∷ rest) s = supplies-run rest (supply_call s place x o).told.session ∙ supply_run s place x o
 
 -- ---- the session of a refused open: its dimension is 0
 pub nothing-tested : (wants : Option Phase) → tested (session_tests wants nothing) ≡ Err Why.Places
@@ -135,7 +135,7 @@ lent_one k o r e = rw e refused_one
 nothing_one : (c : Call) → number (perform c nothing).told.answer ≡ 1
 unfolding perform begin_call supply_call accept_call drop_call first_step_call begin_tests supply_tests accept_tests first_step_tests
 nothing_one (begin step w j o) = lent_one _ o _ (nothing_then (Some Rest) _)
-nothing_one (supply x o) = lent_one _ o _ (nothing_then (Some Asking) _)
+nothing_one (supply place x o) = lent_one _ o _ (nothing_then (Some (Asking place)) _)
 nothing_one (accept f) = told_one _ _ (nothing_then (Some Waiting) _)
 nothing_one drop = told_one _ _ (nothing-tested None)
 nothing_one (first_step largest) = told_one _ _ (nothing_then None _)

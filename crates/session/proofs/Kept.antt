@@ -1,5 +1,5 @@
 -- A refused call, by its outcome's number, returns the session as it came. Assumes nothing.
-use Rattle.std.proofs.Common.{◌≡◌, refl, Bool, true, false, cond, List, Float, length}
+use Rattle.std.proofs.Common.{ℕ, ◌≡◌, refl, Bool, true, false, cond, List, Float, length}
 use Rattle.std.proofs.Math.Bool.{false≢true}
 use Rattle.std.specs.Prelude.{Some}
 use Rattle.float.specs.Arith.{◌⊕◌, finite}
@@ -55,7 +55,7 @@ module _ (s : Session) where
   begin_same step w j out =
       unless_either (tested (begin_tests s step (Some w) j (length out))) (refuse_lent s out) _ (λ o. Same o.told) (λ j e. refl) (λ _. shown_same _ out _)
 
-  pub supply_same : (x out : List Float) → Same (supply_call s x out).told
+  pub supply_same : (place : ℕ) (x out : List Float) → Same (supply_call s place x out).told
   unfolding supply_call
-  supply_same x out =
-      unless_either (tested (supply_tests s x (length out))) (refuse_lent s out) _ (λ o. Same o.told) (λ j e. refl) (λ _. shown_same _ out _)
+  supply_same place x out =
+      unless_either (tested (supply_tests s place x (length out))) (refuse_lent s out) _ (λ o. Same o.told) (λ j e. refl) (λ _. shown_same _ out _)

@@ -6,10 +6,10 @@ use Rattle.session.specs.declared.Wish.TheVariants.{Given, Difference}
 use Rattle.session.specs.declared.Refusal.{Refusal}
 use Rattle.session.specs.declared.Refusal.TheVariants as Why
 use Rattle.session.specs.Tests.{Tests, tested, condition, unless}
-use Rattle.session.specs.Session.{schemes, fresh, wanted, wanted_by, phase_at, phase_of, phase_number, admits, size_ok, run_places, attempt_places}
+use Rattle.session.specs.Session.{schemes, fresh, wanted, wanted_by, phase_at, phase_of, phase_number, open_place, admits, names, size_ok, run_places, attempt_places}
 use Rattle.float.specs.Arith.{finite}
 use Rattle.evaluation.specs.Evaluation.{all_finite}
-use Rattle.session.specs.Session.{good1, history_ok, good2, good3, good7, session_tests, used_jacobian, Sound, clear}
+use Rattle.session.specs.Session.{good1, history_ok, good2, good3, good7, good9, session_tests, used_jacobian, Sound, clear}
 use Rattle.methods.proofs.Shape.{questions-small}
 use Rattle.evaluation.specs.Sizes.{answers_kept}
 use Rattle.methods.specs.Vectors.{Sized}
@@ -89,18 +89,22 @@ pub in_phase : (phase : Phase) (s : Session) → tested (session_tests (Some pha
 in_phase phase s e =
     eqb-true (phase_number phase) (phase_number (phase_of s)) (unfold condition session_tests good7 admits in session_row (Some phase) s e Why.Phase)
 
-asking_more : (a : Option Wish) (b : Bool) → 1 ≡ phase_number (phase_at a b) → b ≡ true
+asking_more : (a : Option Wish) (place : ℕ) (b : Bool) → 1 ≡ phase_number (phase_at a place b) → b ≡ true
 unfolding phase_at phase_number
-asking_more None b e = absurd (omega (arith, e))
-asking_more (Some wish) true e = refl
-asking_more (Some wish) false e = absurd (omega (arith, e))
+asking_more None place b e = absurd (omega (arith, e))
+asking_more (Some wish) place true e = refl
+asking_more (Some wish) place false e = absurd (omega (arith, e))
 
 -- a session that asks wants an answer more
-pub wants_more : (s : Session) → tested (session_tests (Some Asking) s) ≡ Ok tt → s.count < wanted_by s
-wants_more s e = ltb-true s.count (wanted_by s) (asking_more s.attempt _ (unfold phase_of phase_number in in_phase Asking s e))
+pub wants_more : (s : Session) (place : ℕ) → tested (session_tests (Some (Asking place)) s) ≡ Ok tt → s.count < wanted_by s
+wants_more s place e = ltb-true s.count (wanted_by s) (asking_more s.attempt s.count _ (unfold phase_of phase_number in in_phase (Asking place) s e))
 
-pub few_answers : (s : Session) → tested (session_tests (Some Asking) s) ≡ Ok tt → s.count < answers_kept
-few_answers s e = omega (arith, wants_more s e, wanted-small s.scheme s.n s.attempt (passed_sound (Some Asking) s e).small)
+-- and a call that names a question names the open one
+pub open_named : (s : Session) (place : ℕ) → tested (session_tests (Some (Asking place)) s) ≡ Ok tt → place ≡ s.count
+open_named s place e = eqb-true place s.count (unfold condition session_tests good9 names in session_row (Some (Asking place)) s e Why.Question)
+
+pub few_answers : (s : Session) (place : ℕ) → tested (session_tests (Some (Asking place)) s) ≡ Ok tt → s.count < answers_kept
+few_answers s place e = omega (arith, wants_more s place e, wanted-small s.scheme s.n s.attempt (passed_sound (Some (Asking place)) s e).small)
 
 -- what is handed in is tested where the session passes
 pub session_then : (wants : Option Phase) (s : Session) (handed : Tests) {k m : Result ⊤ Refusal} → k ≡ tested (session_tests wants s) → k ≡ Ok tt → m ≡ tested handed
@@ -120,10 +124,10 @@ pub begin_passes : (s : Session) (h : Float) (a : Option Wish) (j : List Float) 
 unfolding begin_tests
 begin_passes s h a j lent e = both_pass (session_tests (Some Rest) s) _ e
 
-pub supply_passes : (s : Session) (x : List Float) (lent : ℕ) → tested (supply_tests s x lent) ≡ Ok tt
-    → (tested (session_tests (Some Asking) s) ≡ Ok tt) × (tested (vector_tests s.n x (eqb lent s.n)) ≡ Ok tt)
+pub supply_passes : (s : Session) (place : ℕ) (x : List Float) (lent : ℕ) → tested (supply_tests s place x lent) ≡ Ok tt
+    → (tested (session_tests (Some (Asking place)) s) ≡ Ok tt) × (tested (vector_tests s.n x (eqb lent s.n)) ≡ Ok tt)
 unfolding supply_tests
-supply_passes s x lent e = both_pass (session_tests (Some Asking) s) _ e
+supply_passes s place x lent e = both_pass (session_tests (Some (Asking place)) s) _ e
 
 pub accept_passes : (s : Session) (x : List Float) → tested (accept_tests s x) ≡ Ok tt
     → (tested (session_tests (Some Waiting) s) ≡ Ok tt) × (tested (vector_tests s.n x true) ≡ Ok tt)
@@ -163,7 +167,8 @@ module _ (old s : Session) (o o' : List Float) (p : Progress) where
   unfolding shown reached
   show_none v = rw (← v) refl
 
-  pub show_question : (x : List Float) (t : Float) → reached (Some (Question x t)) ≡ p → length o ≡ s.n → o' ≡ tab (length o) (λ i. x ! i) → outcome (tell (Ask t) s) o' ≡ shown old s o p
+  pub show_question : (x : List Float) (t : Float) → reached (Some (Question x t)) ≡ p → length o ≡ s.n → o' ≡ tab (length o) (λ i. x ! i)
+      → outcome (tell (Ask (open_place s) t) s) o' ≡ shown old s o p
   unfolding shown reached
   show_question x t v l c = rw (← v, c, l) refl
 

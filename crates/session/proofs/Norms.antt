@@ -89,7 +89,7 @@ norm_of s m x e g w =
 
 -- ---- answers whose norm is no NaN
 Number : Result Answer Refusal → Type 0
-Number (Ok (Ask time)) = Unit
+Number (Ok (Ask place time)) = Unit
 Number (Ok (Ready norm rhs jacobians products)) = is_nan norm ≡ false
 Number (Ok Resting) = Unit
 Number (Ok (FirstStep step)) = Unit
@@ -154,10 +154,10 @@ norms = record {
       let next = begun s step (Some wish) jacobian in
       ready_number _ (call_number (tested (begin_tests s step (Some wish) jacobian (length out))) s out (shown s next out (progress next)) (λ e.
       attempt_number_lem s next out (run_measured s next (unfold begun in refl) (measured (Some Rest) s t (begin_passes s step (Some wish) jacobian (length out) e).0))));
-  supply = λ s answer out t.
+  supply = λ s place answer out t.
       let next = answered s answer in
-      ready_number _ (call_number (tested (supply_tests s answer (length out))) s out (shown s next out (progress next)) (λ e.
-      attempt_number_lem s next out (run_measured s next (unfold answered in refl) (measured (Some Asking) s t (supply_passes s answer (length out) e).0))));
+      ready_number _ (call_number (tested (supply_tests s place answer (length out))) s out (shown s next out (progress next)) (λ e.
+      attempt_number_lem s next out (run_measured s next (unfold answered in refl) (measured (Some (Asking place)) s t (supply_passes s place answer (length out) e).0))));
   bare = λ n relative absolute error state candidate f le ls lc.
       told_number _
       (unless_either (tested (norm_tests n relative absolute error state candidate)) Err (Ok (Norm (error_norm n relative absolute state candidate error))) Number

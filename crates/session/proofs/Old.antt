@@ -1,5 +1,6 @@
 -- A session of the old layout, brought over, and one tolerance for all: as before. Assumes nothing.
-use Rattle.std.proofs.Common.{ℕ, ◌+◌, ◌-◌, ◌≤◌, ◌<◌, zero-add, add_assoc, arith, ◌≡◌, refl, sym, ap, ◌∙◌, Bool, true, false, cond, ◌&&◌, ◌||◌, List, [], ◌++◌, ltb, Float, length, take, drop, get_or-take, length-take-le, lt-ltb, le-ltb}
+use Rattle.std.proofs.Common.{ℕ, ◌+◌, ◌-◌, ◌≤◌, ◌<◌, zero-add, add_assoc, arith, ◌≡◌, refl, sym, ap, ◌∙◌, Bool, true}
+use Rattle.std.proofs.Common.{false, cond, ◌&&◌, ◌||◌, List, [], ◌++◌, ltb, Float, length, take, drop, get_or-take, length-take-le, lt-ltb, le-ltb}
 use Rattle.std.proofs.Math.Decide.{dec_lt}
 use Rattle.std.specs.Float.Ieee.{nan}
 use Rattle.loops.specs.Loop.{every, stores, ◌!◌}
@@ -11,16 +12,17 @@ use Rattle.matrix.specs.Vector.{vec}
 use Rattle.matrix.proofs.Vectors.{length-vec, vec_at}
 use Rattle.engine.specs.Claims.{Equal}
 use Rattle.engine.proofs.Equal.{equal_tolerances}
-use Rattle.std.specs.Prelude.{Result, Err, ⊤, Option, Some, None}
+use Rattle.std.specs.Prelude.{take, ◌∷◌, Result, Err, ⊤, Option, Some, None}
 use Rattle.session.specs.declared.Phase.{Phase}
 use Rattle.session.specs.declared.Refusal.{Refusal}
+use Rattle.session.specs.declared.Refusal.TheVariants as Why
 use Rattle.session.specs.declared.Head.{Head}
 use Rattle.session.specs.declared.OldSession.{OldSession}
 use Rattle.session.specs.declared.Session.{Session}
 use Rattle.session.specs.declared.Phase.TheVariants.{Rest, Asking, Waiting}
 use Rattle.session.specs.Tests.{Tests, refusal_number, tested, unless}
 use Rattle.session.specs.Values.{values_of, number}
-use Rattle.session.specs.Session.{jacobian_room, clear, size_ok, run_places, attempt_places, good1, good2, phase_of, good7, positive, tolerances_ok, good4, good3, session_tests}
+use Rattle.session.specs.Session.{jacobian_room, clear, names, size_ok, run_places, attempt_places, good1, good2, phase_of, good7, good9, positive, tolerances_ok, good4, good3, session_tests}
 use Rattle.session.specs.Figures.{FIGURES, time_at, step_at, relative_at, absolute_at, state_at, derivative_at, previous_at, jacobian_at, answers_at, part, session_of, figures_of}
 use Rattle.session.specs.Calls.{refuse, refuse_lent, ready_of, begin_tests, supply_tests, accept_tests, first_step_tests, begin_call, supply_call, accept_call, drop_call, first_step_call}
 use Rattle.session.specs.Runs.{Call, begin, supply, accept, drop as dropping, first_step, wants_of, perform}
@@ -98,10 +100,30 @@ module _ (wants : Option Phase) (o : OldSession) where
   unfolding good4 brought_over size_ok
   old_tolerances e = let s = size_both o.n e in tolerances_copied o.n o.relative o.absolute s.0 s.1
 
-  same_number : (b : Bool) → size_ok o.n ≡ b → tested (session_tests wants (brought_over o)) ≡ tested (old_tests wants o)
+  old_named : names wants o.count ≡ true → good9 wants (brought_over o) ≡ true
+  unfolding good9 brought_over
+  old_named e = e
+
+  same_number : (b : Bool) → size_ok o.n ≡ b → names wants o.count ≡ true → tested (session_tests wants (brought_over o)) ≡ tested (old_tests wants o)
   unfolding session_tests old_tests tested
-  same_number true e = rw (old_places, old_two, old_phase, old_numbers, old_tolerances e) (unfold brought_over in refl)
-  same_number false e = rw (old_places, e)
+  same_number true e named = rw (old_places, old_two, old_phase, old_named named, old_numbers, old_tolerances e) (unfold brought_over in refl)
+  same_number false e named = rw (old_places, e)
+
+  -- the first three rows, then 9
+  three : (a b c : Bool) (rest : Tests) → tested ((a, Why.Places) ∷ (b, Why.Scheme) ∷ (c, Why.Phase) ∷ (false, Why.Question) ∷ rest)
+      ≡ unless (tested ((a, Why.Places) ∷ (b, Why.Scheme) ∷ (c, Why.Phase) ∷ [])) Err (Err Why.Question)
+  unfolding tested unless
+  three false b c rest = refl
+  three true false c rest = refl
+  three true true false rest = refl
+  three true true true rest = refl
+
+  old_strays : names wants o.count ≡ false → tested (session_tests wants (brought_over o)) ≡ unless (tested (take 3 (old_tests wants o))) Err (Err Why.Question)
+  unfolding session_tests old_tests
+  old_strays strays =
+      let other : good9 wants (brought_over o) ≡ false = unfold good9 brought_over in strays in
+      rw (old_places, old_two, old_phase, other)
+      (three (cond (size_ok o.n) (old_run_places o && attempt_places (tolerating o [])) false) (good2 (tolerating o [])) (good7 wants (tolerating o [])) _)
 
 -- ---- a session that is refused: the call gives its number, whatever is handed in
 
@@ -117,7 +139,7 @@ tested-number of wants s handed refuse next reads h = refused_number of refuse n
 refused_call : (c : Call) (s : Session) (why : Refusal) → tested (session_tests (wants_of c) s) ≡ Err why → number (perform c s).told.answer ≡ refusal_number why
 unfolding wants_of perform number values_of begin_call begin_tests supply_call supply_tests accept_call accept_tests drop_call first_step_call first_step_tests
 refused_call (begin step wish jacobian out) s why h = tested-number (λ r. number r.told.answer) (Some Rest) s _ (refuse_lent s out) _ (λ j. refl) h
-refused_call (supply answer out) s why h = tested-number (λ r. number r.told.answer) (Some Asking) s _ (refuse_lent s out) _ (λ j. refl) h
+refused_call (supply place answer out) s why h = tested-number (λ r. number r.told.answer) (Some (Asking place)) s _ (refuse_lent s out) _ (λ j. refl) h
 refused_call (accept derivative) s why h = tested-number (λ r. number r.answer) (Some Waiting) s _ (refuse s) _ (λ j. refl) h
 refused_call dropping s why h = refused_number (λ r. number r.answer) (refuse s) _ (λ j. refl) h
 refused_call (first_step largest) s why h = tested-number (λ r. number r.answer) None s _ (refuse s) _ (λ j. refl) h
@@ -140,8 +162,9 @@ module _ (n : ℕ) (relative one : Float) (error state candidate : List Float) w
 -- ---- THE CLAIM
 pub as_before : AsBefore
 as_before = record {
-  judged = λ wants o. same_number wants o (size_ok o.n) refl;
-  next = λ c o why h. refused_call c (brought_over o) why (same_number (wants_of c) o (size_ok o.n) refl ∙ h);
+  judged = λ wants o named. same_number wants o (size_ok o.n) refl named;
+  strays = old_strays;
+  next = λ c o why named h. refused_call c (brought_over o) why (same_number (wants_of c) o (size_ok o.n) refl named ∙ h);
   own = λ o i h l. unfold brought_over in own_at o.n o.absolute i h l;
   others = λ o i h l. unfold brought_over in other_at o.n o.absolute i h l;
   ready = λ s one equal candidate error work. unfold ready_of in rw (equal_tolerances.norm s.n s.relative one s.absolute equal s.state candidate error);

@@ -10,7 +10,7 @@ use Rattle.session.specs.declared.Refusal.{Refusal}
 use Rattle.session.specs.declared.Refusal.TheVariants as Why
 use Rattle.session.specs.Tests.{tested}
 use Rattle.session.specs.Session.{Run, jacobian_room, fresh, idle, clear, used_history, used_jacobian, step_clear, size_ok, run_places, attempt_places}
-use Rattle.session.specs.Session.{good1, good2, good3, good4, good5, good7, admits, tolerances_ok, session_tests}
+use Rattle.session.specs.Session.{good1, good2, good3, good4, good5, good7, good9, admits, names, tolerances_ok, session_tests}
 use Rattle.session.specs.Calls.{opened}
 use Rattle.session.proofs.Clear.{clear-zeros, clear-answers-zeros, finite-zeros}
 
@@ -52,5 +52,5 @@ module _ (r : Run) where
   pub opening : tested (session_tests None (opened r))
       ≡ tested ((size_ok r.n, Why.Places) ∷ (open_places, Why.Places) ∷ (good2 (opened r), Why.Scheme) ∷ (tolerances_ok r.n r.relative r.absolute, Why.Tolerance)
       ∷ (finite r.time && all_finite r.state && all_finite r.derivative && all_finite r.previous, Why.NotFinite) ∷ [])
-  unfolding session_tests good7 admits tested
+  unfolding session_tests good7 good9 admits names tested
   opening = rw (places, figures, tolerances, no_step) (one_row (size_ok r.n) open_places _ (Err Why.Places))

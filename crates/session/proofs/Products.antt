@@ -68,7 +68,7 @@ step_few s r a j = go (stepped s a j) refl
 
 -- ---- what is told
 Bounded : ℕ → Result Answer Refusal → Type 0
-Bounded most (Ok (Ask time)) = Unit
+Bounded most (Ok (Ask place time)) = Unit
 Bounded most (Ok (Ready norm rhs jacobians products)) = products ≤ most
 Bounded most (Ok Resting) = Unit
 Bounded most (Ok (FirstStep step)) = Unit
@@ -125,13 +125,13 @@ products = record {
       ready_few (47 * exponentials_of s) _ (call_few (47 * exponentials_of s) (tested (begin_tests s step (Some wish) jacobian (length out))) s out (shown s next out (progress next)) (λ e.
       let p = begin_passes s step (Some wish) jacobian (length out) e in
       run_few s next out (unfold begun in refl) (starts s t (passed_sound (Some Rest) s p.0).small)));
-  supply = λ s answer out t.
+  supply = λ s place answer out t.
       let next = answered s answer in
-      ready_few (47 * exponentials_of s) _ (call_few (47 * exponentials_of s) (tested (supply_tests s answer (length out))) s out (shown s next out (progress next)) (λ e.
-      let p = supply_passes s answer (length out) e in
-      run_few s next out (unfold answered in refl) (starts s t (passed_sound (Some Asking) s p.0).small)));
+      ready_few (47 * exponentials_of s) _ (call_few (47 * exponentials_of s) (tested (supply_tests s place answer (length out))) s out (shown s next out (progress next)) (λ e.
+      let p = supply_passes s place answer (length out) e in
+      run_few s next out (unfold answered in refl) (starts s t (passed_sound (Some (Asking place)) s p.0).small)));
   most = λ s. omega (arith, at_most_34 s.scheme (is_held s.history));
-  asking = λ time. unfold values_of figured in refl;
+  asking = λ place time. unfold values_of figured in refl;
   exponential = λ size m out d.
       filled_far _ (bare_far (tested (exponential_tests size m (length out))) out (admitted m size) _ _ _ (λ z r.
       let s = exponential_sized size m (length out) z in

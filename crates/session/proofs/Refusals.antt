@@ -90,9 +90,9 @@ numbers = record {
       let next = begun s step (Some wish) jacobian in
       call_first outcome-number (begin_tests s step (Some wish) jacobian (length out)) _ (refuse_lent s out) _
       refused_number (λ _. shown-first s next out (progress next));
-  supply = λ s answer out.
+  supply = λ s place answer out.
       let next = answered s answer in
-      call_first outcome-number (supply_tests s answer (length out)) _ (refuse_lent s out) _
+      call_first outcome-number (supply_tests s place answer (length out)) _ (refuse_lent s out) _
       refused_number (λ _. shown-first s next out (progress next));
   accept = λ s derivative.
       call_first told_number (accept_tests s derivative) _ (refuse s) _ refused_number (λ e.
@@ -154,7 +154,7 @@ unfolding open_call begin_call supply_call accept_call drop_call first_step_call
 refusals = record {
   opens = λ r. kept _ nothing _ (resting_kept nothing _);
   begin = λ s step wish jacobian out. unchanged _ s out _ (shown_unchanged s _ out _);
-  supply = λ s answer out. unchanged _ s out _ (shown_unchanged s _ out _);
+  supply = λ s place answer out. unchanged _ s out _ (shown_unchanged s _ out _);
   accept = λ s derivative. kept _ s _ (settled_kept s derivative _);
   drop = λ s. kept _ s _ (resting_kept s _);
   first_step = λ s largest. kept _ s _ (unfold Kept in λ _. refl);

@@ -19,6 +19,7 @@ some_number Why.Step e = absurd (omega (arith, e))
 some_number Why.Arithmetic e = absurd (omega (arith, e))
 some_number Why.Phase e = absurd (omega (arith, e))
 some_number Why.Table e = absurd (omega (arith, e))
+some_number Why.Question e = absurd (omega (arith, e))
 
 -- ---- a row that fails gives its refusal; one that holds leaves it to the rows after it
 

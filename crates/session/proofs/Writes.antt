@@ -19,7 +19,7 @@ use Rattle.session.specs.declared.Head.{Head}
 use Rattle.session.specs.declared.History.TheVariants.{Held}
 use Rattle.session.specs.declared.Phase.TheVariants.{Rest}
 use Rattle.session.specs.Tests.{tested}
-use Rattle.session.specs.Session.{jacobian_room, Trial, trial_of, fresh, idle, clear, in_answers, clear_answers, used_jacobian, admits, good7, session_tests}
+use Rattle.session.specs.Session.{jacobian_room, Trial, trial_of, fresh, idle, clear, in_answers, clear_answers, used_jacobian, admits, names, good7, good9, session_tests}
 use Rattle.session.specs.Claims.{Doubles, Typed, Closed}
 use Rattle.session.specs.declared.Left.{Left}
 use Rattle.session.specs.declared.Answer.TheVariants.{Resting}
@@ -569,7 +569,7 @@ module _ (x : List Float) (e : length x ≡ FIGURES) where
 
 -- a session that a call in one phase takes is taken by one in any
 pub passes_any : (wants : Option Phase) (s : Session) → tested (session_tests wants s) ≡ Ok tt → tested (session_tests None s) ≡ Ok tt
-unfolding Closed good7 admits
+unfolding Closed good7 good9 admits names
 passes_any wants s e = good_closed (passed_good wants s e) None
 
 -- ---- accept

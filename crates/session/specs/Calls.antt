@@ -19,7 +19,7 @@ use Rattle.session.specs.declared.History.TheVariants.{Missing, Held}
 use Rattle.session.specs.declared.Wish.{Wish}
 use Rattle.session.specs.declared.Phase.TheVariants.{Rest, Asking, Waiting}
 use Rattle.session.specs.Tests.{Tests, tested, unless}
-use Rattle.session.specs.Session.{Run, joined, run_of, fresh, idle, clear, used_jacobian, wanted_by, step_ok, session_tests, progress}
+use Rattle.session.specs.Session.{Run, joined, run_of, fresh, idle, clear, used_jacobian, wanted_by, open_place, step_ok, session_tests, progress}
 
 -- ---- outcomes
 
@@ -112,10 +112,10 @@ ready_of s candidate error work =
     let norm = cond (has_error s.scheme) (error_norm s.n s.relative s.absolute s.state candidate error) zero+ in
     Ready norm (wanted_by s) 1 work.products
 
--- what is told of a session with an attempt: the question or the candidate fills the output; where it is refused, `old` goes back
+-- what is told of a session with an attempt: the question, with its place, or the candidate fills the output; where it is refused, `old` goes back
 unfoldable pub shown : Session → Session → List Float → Progress → Outcome
 shown old s out refused = refuse_lent old out Why.Arithmetic
-shown old s out (asking x time) = outcome (tell (Ask time) s) (tab s.n (λ i. x ! i))
+shown old s out (asking x time) = outcome (tell (Ask (open_place s) time) s) (tab s.n (λ i. x ! i))
 shown old s out (ended x e g work) = outcome (tell (ready_of s x e work) s) (tab s.n (λ i. x ! i))
 
 -- the candidate becomes the state, if the time then is finite
@@ -148,8 +148,8 @@ largest_tests largest = (le epsilon largest, Why.Step) ∷ []
 unfoldable pub begin_tests : Session → Float → Option Wish → List Float → ℕ → Tests
 begin_tests s step attempt jacobian lent = session_tests (Some Rest) s ++ attempt_tests s.n step attempt jacobian lent
 
-unfoldable pub supply_tests : Session → List Float → ℕ → Tests
-supply_tests s answer lent = session_tests (Some Asking) s ++ vector_tests s.n answer (eqb lent s.n)
+unfoldable pub supply_tests : Session → ℕ → List Float → ℕ → Tests
+supply_tests s place answer lent = session_tests (Some (Asking place)) s ++ vector_tests s.n answer (eqb lent s.n)
 
 unfoldable pub accept_tests : Session → List Float → Tests
 accept_tests s derivative = session_tests (Some Waiting) s ++ vector_tests s.n derivative true
@@ -167,10 +167,10 @@ begin_call s step wish jacobian out =
     let next = begun s step (Some wish) jacobian in
     unless (tested (begin_tests s step (Some wish) jacobian (length out))) (refuse_lent s out) (shown s next out (progress next))
 
-unfoldable pub supply_call : Session → List Float → List Float → Outcome
-supply_call s answer out =
+unfoldable pub supply_call : Session → ℕ → List Float → List Float → Outcome
+supply_call s place answer out =
     let next = answered s answer in
-    unless (tested (supply_tests s answer (length out))) (refuse_lent s out) (shown s next out (progress next))
+    unless (tested (supply_tests s place answer (length out))) (refuse_lent s out) (shown s next out (progress next))
 
 unfoldable pub accept_call : Session → List Float → Told
 accept_call s derivative = unless (tested (accept_tests s derivative)) (refuse s) (settled s derivative (progress s))

@@ -19,7 +19,7 @@ use Rattle.session.specs.declared.Wish.{Wish}
 use Rattle.session.specs.declared.Phase.TheVariants.{Rest, Waiting}
 use Rattle.session.specs.Tests.{tested}
 use Rattle.session.specs.Values.{values_of, number}
-use Rattle.session.specs.Session.{Run, jacobian_room, wanted_by, good1, good7, positive, good4, session_tests, is_held, progress}
+use Rattle.session.specs.Session.{Run, jacobian_room, wanted_by, good1, good7, good9, positive, good4, session_tests, is_held, progress}
 use Rattle.session.specs.Calls.{tell, nothing, open_call, begin_call, supply_call, drop_call, first_step_call}
 use Rattle.session.specs.Bare.{exponential_call, phi_call, norm_call}
 use Rattle.session.specs.Runs.{Call, begin, supply, accept, drop, first_step, perform, after}
@@ -47,7 +47,7 @@ pub record Typed (s : Session) : Type 0 where
 -- a supplied answer has sixteen places
 unfoldable pub TypedCall : Call → Type 0
 TypedCall (begin step wish jacobian out) = Unit
-TypedCall (supply answer out) = length answer ≡ places
+TypedCall (supply place answer out) = length answer ≡ places
 TypedCall (accept derivative) = Unit
 TypedCall drop = Unit
 TypedCall (first_step largest) = Unit
@@ -59,7 +59,7 @@ TypedCalls (c ∷ cs) = TypedCall c × TypedCalls cs
 -- ---- counts: Ask's session has fewer answers than its attempt wants, Ready's exactly as many
 
 unfoldable pub CountedBy : Result Answer Refusal → ℕ → ℕ → Type 0
-CountedBy (Ok (Ask time)) count most = count < most
+CountedBy (Ok (Ask place time)) count most = count < most
 CountedBy (Ok (Ready norm rhs jacobians products)) count most = count ≡ most
 CountedBy (Ok Resting) count most = Unit
 CountedBy (Ok (FirstStep step)) count most = Unit
@@ -72,14 +72,14 @@ Counted r = CountedBy r.answer r.session.count (wanted_by r.session)
 
 pub record Counts : Type 0 where
   pub begin : (s : Session) (step : Float) (wish : Wish) (jacobian out : List Float) → Counted (begin_call s step wish jacobian out).told
-  pub supply : (s : Session) (answer out : List Float) → Counted (supply_call s answer out).told
+  pub supply : (s : Session) (place : ℕ) (answer out : List Float) → Counted (supply_call s place answer out).told
   -- a session that accept takes is never still asking
   pub accept : (s : Session) → tested (session_tests (Some Waiting) s) ≡ Ok tt → (x : List Float) (time : Float) → progress s ≡ asking x time → ⊥
 
--- ---- closed: a session that an accepted call returns is refused by nothing but its phase
+-- ---- closed: a session that an accepted call returns is refused by nothing but its phase and the place of its question
 
 unfoldable pub Closed : Session → Type 0
-Closed s = (wants : Option Phase) → tested (session_tests wants s) ≡ cond (good7 wants s) (Ok tt) (Err Why.Phase)
+Closed s = (wants : Option Phase) → tested (session_tests wants s) ≡ cond (good7 wants s) (cond (good9 wants s) (Ok tt) (Err Why.Question)) (Err Why.Phase)
 
 pub record Closes : Type 0 where
   pub opens : (r : Run) → number (open_call r).answer ≡ 0 → Closed (open_call r).session
@@ -107,12 +107,12 @@ pub record Products : Type 0 where
   -- of every session of the code's types, forged or not, and whatever is handed in, Ready's products are at most 47 for each exponential of its scheme's pass
   pub begin : (s : Session) (step : Float) (wish : Wish) (jacobian out : List Float) → Typed s
       → (norm : Float) (rhs jacobians products : ℕ) → (begin_call s step wish jacobian out).told.answer ≡ Ok (Ready norm rhs jacobians products) → products ≤ 47 * exponentials_of s
-  pub supply : (s : Session) (answer out : List Float) → Typed s
-      → (norm : Float) (rhs jacobians products : ℕ) → (supply_call s answer out).told.answer ≡ Ok (Ready norm rhs jacobians products) → products ≤ 47 * exponentials_of s
+  pub supply : (s : Session) (place : ℕ) (answer out : List Float) → Typed s
+      → (norm : Float) (rhs jacobians products : ℕ) → (supply_call s place answer out).told.answer ≡ Ok (Ready norm rhs jacobians products) → products ≤ 47 * exponentials_of s
   -- so at most 1,598
   pub most : (s : Session) → 47 * exponentials_of s ≤ 1598
-  -- a pass that asks carries no sum
-  pub asking : (time : Float) → (values_of (Ok (Ask time))).counts ≡ 0 ∷ 0 ∷ 0 ∷ []
+  -- a pass that asks carries no sum: the place of its question alone
+  pub asking : (place : ℕ) (time : Float) → (values_of (Ok (Ask place time))).counts ≡ place ∷ 0 ∷ 0 ∷ []
   -- Filled's terms and squarings are no more than an exponential may take, of every matrix and every input of doubles
   pub exponential : (size : ℕ) (m out : List Float) → ((i : ℕ) → T (fits binary64 (m ! i)))
       → (terms squarings : ℕ) → (exponential_call size m out).answer ≡ Ok (Filled terms squarings) → Few terms squarings
@@ -121,17 +121,17 @@ pub record Products : Type 0 where
 
 -- ---- drops, and the session of a refused open
 
--- one supply for each answer and lent output
-unfoldable pub supplies : List (List Float × List Float) → List Call
+-- one supply for each place, answer and lent output
+unfoldable pub supplies : List (ℕ × (List Float × List Float)) → List Call
 supplies [] = []
-supplies ((answer, out) ∷ rest) = supply answer out ∷ supplies rest
+supplies ((place, (answer, out)) ∷ rest) = supply place answer out ∷ supplies rest
 
 pub record Drops : Type 0 where
   -- at rest: the session as it was
   pub at_rest : (s : Session) → Typed s → tested (session_tests (Some Rest) s) ≡ Ok tt → drop_call s ≡ tell Resting s
   -- after begin and any supplies, refused ones too: the session before begin
   pub attempt : (s : Session) → Typed s → tested (session_tests (Some Rest) s) ≡ Ok tt
-      → (step : Float) (wish : Wish) (jacobian out : List Float) (answers : List (List Float × List Float)) → TypedCalls (supplies answers)
+      → (step : Float) (wish : Wish) (jacobian out : List Float) (answers : List (ℕ × (List Float × List Float))) → TypedCalls (supplies answers)
       → drop_call (after s (begin step wish jacobian out ∷ supplies answers)) ≡ tell Resting s
   -- every call refuses what a refused open returns by 1
   pub nothing : (c : Call) → number (perform c nothing).told.answer ≡ 1
@@ -148,8 +148,8 @@ FirstSteps =
 pub record Norms : Type 0 where
   pub begin : (s : Session) (step : Float) (wish : Wish) (jacobian out : List Float) → Typed s
       → (norm : Float) (rhs jacobians products : ℕ) → (begin_call s step wish jacobian out).told.answer ≡ Ok (Ready norm rhs jacobians products) → is_nan norm ≡ false
-  pub supply : (s : Session) (answer out : List Float) → Typed s
-      → (norm : Float) (rhs jacobians products : ℕ) → (supply_call s answer out).told.answer ≡ Ok (Ready norm rhs jacobians products) → is_nan norm ≡ false
+  pub supply : (s : Session) (place : ℕ) (answer out : List Float) → Typed s
+      → (norm : Float) (rhs jacobians products : ℕ) → (supply_call s place answer out).told.answer ≡ Ok (Ready norm rhs jacobians products) → is_nan norm ≡ false
   pub bare : (n : ℕ) (relative : Float) (absolute error state candidate : List Float)
       → ((i : ℕ) → T (fits binary64 (absolute ! i))) → length error ≡ places → length state ≡ places → length candidate ≡ places
       → (norm : Float) → norm_call n relative absolute error state candidate ≡ Ok (Norm norm) → is_nan norm ≡ false

@@ -8,4 +8,5 @@ pub mod Bare
 pub mod Runs
 pub mod Refusals
 pub mod Claims
+pub mod Questions
 pub mod Old

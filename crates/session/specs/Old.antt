@@ -1,5 +1,5 @@
 -- A session of the older layout, with one absolute tolerance, and how it is brought over. Definitions only.
-use Rattle.std.specs.Prelude.{ℕ, ◌+◌, ◌≤◌, ◌<◌, ◌≡◌, Bool, false, cond, ◌&&◌, List, [], ◌∷◌, ltb, Float, Result, Ok, Err, Option}
+use Rattle.std.specs.Prelude.{ℕ, ◌+◌, ◌≤◌, ◌<◌, ◌≡◌, Bool, true, false, cond, ◌&&◌, List, [], ◌∷◌, ltb, Float, take, Result, Ok, Err, Option}
 use Rattle.loops.specs.Loop.{tab, ◌!◌}
 use Rattle.float.specs.Arith.{zero+}
 use Rattle.evaluation.specs.Evaluation.{all_finite}
@@ -17,7 +17,7 @@ use Rattle.session.specs.declared.Refusal.{Refusal}
 use Rattle.session.specs.declared.Refusal.TheVariants as Why
 use Rattle.session.specs.Tests.{Tests, refusal_number, tested, unless}
 use Rattle.session.specs.Values.{number}
-use Rattle.session.specs.Session.{jacobian_room, clear, used_history, wanted_by, size_ok, attempt_places, good2, good7, positive, good5, good3, session_tests}
+use Rattle.session.specs.Session.{jacobian_room, clear, used_history, wanted_by, names, size_ok, attempt_places, good2, good7, positive, good5, good3, session_tests}
 use Rattle.session.specs.Figures.{time_at, step_at, relative_at, absolute_at, part, figures_of}
 use Rattle.session.specs.Calls.{tell, refuse, has_error, ready_of, first_step_tests, first_step_call}
 use Rattle.session.specs.Bare.{norm_call}
@@ -106,7 +106,7 @@ both_positive relative absolute = positive relative && positive absolute
 unfoldable pub old_run_places : OldSession → Bool
 old_run_places o = clear o.n o.state && clear o.n o.derivative && clear (used_history o.history o.n) o.previous
 
--- the tests of an old session: as those of today, which but for 1 and 4 read no tolerance, so that it has none for them
+-- the tests of an old session: as those of today, which but for 1 and 4 read no tolerance, so that it has none for them; no call named a question then
 unfoldable pub old_tests : Option Phase → OldSession → Tests
 old_tests wants o =
     let s = tolerating o [] in
@@ -134,10 +134,14 @@ old_norm_call n relative absolute error state candidate =
 -- ---- THE CLAIM: as before
 
 pub record AsBefore : Type 0 where
-  -- a session that is brought over is judged as it was: n of every kind
-  pub judged : (wants : Option Phase) (o : OldSession) → tested (session_tests wants (brought_over o)) ≡ tested (old_tests wants o)
-  -- so the next call, whatever it hands in, refuses by that number each one that it would have refused before
-  pub next : (c : Call) (o : OldSession) (refusal : Refusal) → tested (old_tests (wants_of c) o) ≡ Err refusal → number (perform c (brought_over o)).told.answer ≡ refusal_number refusal
+  -- a session that is brought over is judged as it was, n of every kind, by a call that names no question but the open one
+  pub judged : (wants : Option Phase) (o : OldSession) → names wants o.count ≡ true → tested (session_tests wants (brought_over o)) ≡ tested (old_tests wants o)
+  -- by one that names another, by 1, 2 or 7 as it was, and otherwise by 9
+  pub strays : (wants : Option Phase) (o : OldSession) → names wants o.count ≡ false
+      → tested (session_tests wants (brought_over o)) ≡ unless (tested (take 3 (old_tests wants o))) Err (Err Why.Question)
+  -- so the next call, whatever else it hands in, refuses by that number each one that it would have refused before
+  pub next : (c : Call) (o : OldSession) (refusal : Refusal) → names (wants_of c) o.count ≡ true → tested (old_tests (wants_of c) o) ≡ Err refusal
+      → number (perform c (brought_over o)).told.answer ≡ refusal_number refusal
   -- its tolerance stands in the first n places, and +0.0 in the others
   pub own : (o : OldSession) (i : ℕ) → i < o.n → i < places → (brought_over o).absolute ! i ≡ o.absolute
   pub others : (o : OldSession) (i : ℕ) → o.n ≤ i → i < places → (brought_over o).absolute ! i ≡ zero+

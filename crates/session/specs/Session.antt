@@ -140,23 +140,34 @@ wanted_by s = wanted s.scheme s.n s.attempt
 
 -- ---- the phase
 
--- without an attempt at rest; with one asking while an answer is wanted, then waiting for accept
-unfoldable pub phase_at : Option Wish → Bool → Phase
-phase_at None more = Rest
-phase_at (Some wish) more = cond more Asking Waiting
+-- the place of the open question: how many answers there are so far
+abbrev pub open_place : Session → ℕ
+open_place s = s.count
+
+-- without an attempt at rest; with one asking the open question while an answer is wanted, then waiting for accept
+unfoldable pub phase_at : Option Wish → ℕ → Bool → Phase
+phase_at None place more = Rest
+phase_at (Some wish) place more = cond more (Asking place) Waiting
 
 unfoldable pub phase_of : Session → Phase
-phase_of s = phase_at s.attempt (ltb s.count (wanted_by s))
+phase_of s = phase_at s.attempt (open_place s) (ltb s.count (wanted_by s))
 
 unfoldable pub phase_number : Phase → ℕ
 phase_number Rest = 0
-phase_number Asking = 1
+phase_number (Asking place) = 1
 phase_number Waiting = 2
 
 -- a call wants the session in one phase, or takes it in any: None
 unfoldable pub admits : Option Phase → Phase → Bool
 admits None phase = true
 admits (Some one) phase = eqb (phase_number one) (phase_number phase)
+
+-- a call that wants a question to be asked wants the one at its place
+unfoldable pub names : Option Phase → ℕ → Bool
+names None place = true
+names (Some Rest) place = true
+names (Some (Asking one)) place = eqb one place
+names (Some Waiting) place = true
 
 -- ---- the conditions of the table of refusals, on the session: each holds where its number is not given
 
@@ -190,6 +201,10 @@ good2 s = ltb s.scheme schemes && history_ok s.history s.scheme && leb s.count (
 unfoldable pub good7 : Option Phase → Session → Bool
 good7 wants s = admits wants (phase_of s)
 
+-- 9: the place of the open question, where the call names one
+unfoldable pub good9 : Option Phase → Session → Bool
+good9 wants s = names wants (open_place s)
+
 -- a tolerance is finite and positive
 unfoldable pub positive : Float → Bool
 positive x = finite x && lt zero+ x
@@ -215,12 +230,13 @@ good5 (Some wish) step = step_ok step
 unfoldable pub good3 : Session → Bool
 good3 s = finite s.time && all_finite s.state && all_finite s.derivative && all_finite s.previous && all_finite s.jacobian && all_finite s.answers
 
--- the tests of a session, in the order 1, 2, 7, 4, 5, 3
+-- the tests of a session, in the order 1, 2, 7, 9, 4, 5, 3
 unfoldable pub session_tests : Option Phase → Session → Tests
 session_tests wants s =
     (good1 s, Why.Places)
     ∷ (good2 s, Why.Scheme)
     ∷ (good7 wants s, Why.Phase)
+    ∷ (good9 wants s, Why.Question)
     ∷ (good4 s, Why.Tolerance)
     ∷ (good5 s.attempt s.step, Why.Step)
     ∷ (good3 s, Why.NotFinite)

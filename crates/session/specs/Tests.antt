@@ -13,6 +13,7 @@ refusal_number Why.Step = 5
 refusal_number Why.Arithmetic = 6
 refusal_number Why.Phase = 7
 refusal_number Why.Table = 8
+refusal_number Why.Question = 9
 
 -- a row: a condition, and the refusal that is given where it is the first to fail
 abbrev pub Tests : Type 0

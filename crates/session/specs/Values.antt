@@ -21,9 +21,9 @@ uncounted = 0 ∷ 0 ∷ 0 ∷ []
 unfoldable pub figured : ℕ → Float → Values
 figured outcome figure = record { outcome = outcome; refusal = 0; figure = figure; counts = uncounted }
 
--- Ready's counts are right-hand sides, Jacobians and matrix products; Filled's are terms and squarings
+-- Ask's first count is its place; Ready's counts are right-hand sides, Jacobians and matrix products; Filled's are terms and squarings
 unfoldable pub values_of : Result Answer Refusal → Values
-values_of (Ok (Ask time)) = figured 1 time
+values_of (Ok (Ask place time)) = record { outcome = 1; refusal = 0; figure = time; counts = place ∷ 0 ∷ 0 ∷ [] }
 values_of (Ok (Ready norm rhs jacobians products)) = record { outcome = 2; refusal = 0; figure = norm; counts = rhs ∷ jacobians ∷ products ∷ [] }
 values_of (Ok Resting) = figured 3 zero+
 values_of (Ok (FirstStep step)) = figured 4 step

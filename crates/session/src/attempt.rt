@@ -183,7 +183,7 @@ impl Attempt<'_> {
         match self.run_pass()? {
             StepResult::Question(x, time) => {
                 places::copy_out(x, out);
-                Some(Answer::Ask(time))
+                Some(Answer::Ask(self.head.count as u32, time))
             }
             StepResult::Done(candidate, error, _, work) => {
                 places::copy_out(candidate, out);

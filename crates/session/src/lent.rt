@@ -5,7 +5,7 @@ ghost use Rattle.evaluation.specs.Sizes.{places};
 use crate::figures::part;
 use crate::{
     ABSOLUTE_AT, ANSWERS_AT, DERIVATIVE_AT, Figures, Head, JACOBIAN, JACOBIAN_AT, PREVIOUS_AT,
-    Phase, RELATIVE_AT, SCHEMES, STATE_AT, STEP_AT, TIME_AT, admits, history_ok, places,
+    Phase, RELATIVE_AT, SCHEMES, STATE_AT, STEP_AT, TIME_AT, admits, history_ok, names, places,
     step_clear, tolerances_ok, used_history, used_jacobian, wanted,
 };
 use evaluation::PLACES;
@@ -20,7 +20,7 @@ pub struct Lent<'a> {
 }
 
 impl Lent<'_> {
-    ghost use Rattle.session.specs.Session.{run_places, attempt_places, good1, good2, phase_of, good7, good4, good3};
+    ghost use Rattle.session.specs.Session.{run_places, attempt_places, good1, good2, phase_of, good7, good9, good4, good3};
     ghost use Rattle.session.specs.Lent.{lent};
 
     fn n(&self) -> Dimension
@@ -68,6 +68,7 @@ impl Lent<'_> {
             & (k.count <= wanted(k.scheme, self.n(), k.attempt))
     }
 
+    // The place of the open question is the number of answers so far.
     #[tactic(auto, unfolding(crate::specs::Session::phase_at, crate::specs::Session::phase_of, crate::specs::Figures::session_of))]
     fn phase_of(&self) -> Phase
         ensures { result ≡ phase_of (lent self.now) }
@@ -77,7 +78,7 @@ impl Lent<'_> {
             return Phase::Rest;
         };
         if k.count < wanted(k.scheme, self.n(), k.attempt) {
-            Phase::Asking
+            Phase::Asking(k.count)
         } else {
             Phase::Waiting
         }
@@ -89,6 +90,14 @@ impl Lent<'_> {
         ensures { result ≡ good7 wants (lent self.now) }
     {
         admits(wants, self.phase_of())
+    }
+
+    // 9: the place of the open question, where the call names one.
+    #[tactic(auto, unfolding(crate::specs::Session::good9, crate::specs::Figures::session_of))]
+    pub fn good9(&self, wants: Option<Phase>) -> bool
+        ensures { result ≡ good9 wants (lent self.now) }
+    {
+        names(wants, self.head.count)
     }
 
     // 4: the tolerances.

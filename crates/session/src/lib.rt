@@ -9,7 +9,7 @@ ghost use Rattle.evaluation.specs.Sizes.{places, answers_kept};
 ghost use Rattle.methods.specs.Order.{order_number};
 ghost use Rattle.float.specs.Arith.{zero+};
 ghost use Rattle.session.specs.Tests.{refusal_number, tested};
-ghost use Rattle.session.specs.Session.{jacobian_room, clear, used_history, used_jacobian, step_clear, wanted, admits};
+ghost use Rattle.session.specs.Session.{jacobian_room, clear, used_history, used_jacobian, step_clear, wanted, phase_number, admits, names};
 ghost use Rattle.session.specs.Session.{good1, history_ok, positive, tolerances_ok, step_ok, good5, session_tests, Sound};
 ghost use Rattle.session.specs.Session.{progress};
 ghost use Rattle.session.specs.Figures.{FIGURES, answers_at, session_of, head_of, figures_of};
@@ -57,11 +57,11 @@ pub enum Wish {
     Difference,
 }
 
-// What a call tells the host. Ask: the time of the question. Ready: the error norm, right-hand sides, Jacobians and matrix products. Filled:
+// What a call tells the host. Ask: the question's place in the attempt, from 0, and its time. Ready: the error norm, right-hand sides, Jacobians and matrix products. Filled:
 // the terms and squarings of the exponential.
 #[derive(Clone, Copy)]
 pub enum Answer {
-    Ask(f64),
+    Ask(u32, f64),
     Ready(f64, u32, u32, u32),
     Resting,
     FirstStep(f64),
@@ -70,7 +70,7 @@ pub enum Answer {
 }
 
 // Why a call is refused: places or a dimension, the scheme with its history and answers, a number that is not finite, a tolerance, a step,
-// arithmetic that is not admitted, the phase; and, by the crate `table` alone, a table of equations.
+// arithmetic that is not admitted, the phase; by the crate `table` alone, a table of equations; an answer to another question.
 #[derive(Clone, Copy, Debug, PartialEq, Eq)]
 pub enum Refusal {
     Places,
@@ -81,6 +81,7 @@ pub enum Refusal {
     Arithmetic,
     Phase,
     Table,
+    Question,
 }
 
 impl From<Refusal> for u8 {
@@ -97,6 +98,7 @@ impl From<Refusal> for u8 {
             Refusal::Arithmetic => 6,
             Refusal::Phase => 7,
             Refusal::Table => 8,
+            Refusal::Question => 9,
         }
     }
 }
@@ -168,12 +170,26 @@ pub struct Told {
     pub session: Session,
 }
 
-// The phase of a session: at rest, asking, or with all its answers and waiting for accept.
-#[derive(Clone, Copy, PartialEq, Eq)]
+// The phase of a session: at rest, asking the question at a place, or with all its answers and waiting for accept.
+#[derive(Clone, Copy)]
 pub enum Phase {
     Rest,
-    Asking,
+    Asking(usize),
     Waiting,
+}
+
+impl Phase {
+    // The same for every question.
+    #[tactic(auto, unfolding(crate::specs::Session::phase_number))]
+    fn number(self) -> u8
+        ensures { result ≡ phase_number self }
+    {
+        match self {
+            Phase::Rest => 0,
+            Phase::Asking(_) => 1,
+            Phase::Waiting => 2,
+        }
+    }
 }
 
 // ---- what a session is refused for
@@ -232,12 +248,24 @@ fn history_ok(h: History, scheme: u8) -> bool
 }
 
 // A call wants the session in one phase, or takes it in any.
+#[tactic(auto, unfolding(crate::specs::Session::admits))]
 fn admits(wants: Option<Phase>, phase: Phase) -> bool
     ensures { result ≡ admits wants phase }
 {
     match wants {
         None => true,
-        Some(one) => one == phase,
+        Some(one) => one.number() == phase.number(),
+    }
+}
+
+// A call that wants a question to be asked wants the one at its place.
+#[tactic(auto, unfolding(crate::specs::Session::names))]
+fn names(wants: Option<Phase>, place: usize) -> bool
+    ensures { result ≡ names wants place }
+{
+    match wants {
+        Some(Phase::Asking(one)) => one == place,
+        _ => true,
     }
 }
 
@@ -305,11 +333,15 @@ pub fn test_session(wants: Option<Phase>, k: Head, figures: &Figures) -> Result<
         return Err(Refusal::Scheme);
     }
     let in_phase = s.good7(wants);
+    let asked = s.good9(wants);
     let tolerances = s.good4();
     let step = good5(k.attempt, figures[STEP_AT]);
     let numbers = s.good3();
     if !in_phase {
         return Err(Refusal::Phase);
+    }
+    if !asked {
+        return Err(Refusal::Question);
     }
     if !tolerances {
         return Err(Refusal::Tolerance);
@@ -387,12 +419,13 @@ fn test_begin(
 fn test_supply(
     k: Head,
     figures: &Figures,
+    place: usize,
     answer: &[f64; PLACES],
     lent: usize,
 ) -> Result<(), Refusal>
-    ensures { result ≡ tested (supply_tests (session_of k figures.now) answer.now lent) }
+    ensures { result ≡ tested (supply_tests (session_of k figures.now) place answer.now lent) }
 {
-    test_session(Some(Phase::Asking), k, figures)?;
+    test_session(Some(Phase::Asking(place)), k, figures)?;
     if lent != k.n {
         return Err(Refusal::Places);
     }
@@ -442,7 +475,7 @@ fn put_attempt(
 // One answer more.
 fn put_answer(k: Head, figures: &mut [f64], answer: &[f64; PLACES]) -> Head
     requires figures_len { length figures.old ≡ FIGURES }
-    requires figures_value { tested (session_tests (Some Phase.Asking) (session_of k figures.old)) ≡ Ok tt }
+    requires figures_value { tested (session_tests (Some (Phase.Asking k.count)) (session_of k figures.old)) ≡ Ok tt }
     ensures answered { session_of result figures.new ≡ answered (session_of k figures.old) answer.now }
     ensures back { stores (λ _ _. zero+) (answers_at + places * k.count) places figures.new ≡ figures.old }
 {
@@ -660,10 +693,16 @@ pub fn begin_over(
     }
 }
 
-pub fn supply_over(k: Head, figures: &mut Figures, answer: &[f64; PLACES], out: &mut [f64]) -> Left
-    ensures { outcome (told_by result figures.new) out.new ≡ supply_call (session_of k figures.old) answer.now out.old }
+pub fn supply_over(
+    k: Head,
+    figures: &mut Figures,
+    place: usize,
+    answer: &[f64; PLACES],
+    out: &mut [f64],
+) -> Left
+    ensures { outcome (told_by result figures.new) out.new ≡ supply_call (session_of k figures.old) place answer.now out.old }
 {
-    if let Err(refusal) = test_supply(k, figures, answer, out.len()) {
+    if let Err(refusal) = test_supply(k, figures, place, answer, out.len()) {
         return refused(k, refusal);
     }
     let next = put_answer(k, figures, answer);
@@ -815,11 +854,11 @@ impl Head {
         begin_over(self, figures, step, wish, jacobian, out)
     }
 
-    // Supplies the derivative that was asked for: the next question, or the candidate, fills `out`.
-    pub fn supply(self, figures: &mut [f64], answer: &[f64], out: &mut [f64]) -> Left
+    // Supplies the derivative that the question at `place` asked for: the next question, or the candidate, fills `out`.
+    pub fn supply(self, figures: &mut [f64], place: usize, answer: &[f64], out: &mut [f64]) -> Left
         ensures { fills result figures.new out.new ≡ lent_fill
             (eqb (length figures.old) FIGURES && eqb (length answer.now) places)
-            self figures.old out.old (λ s o. supply_call s answer.now o) }
+            self figures.old out.old (λ s o. supply_call s place answer.now o) }
     {
         let Some(answer) = answer.as_array() else {
             return refused(self, Refusal::Places);
@@ -827,7 +866,7 @@ impl Head {
         let Some(figures) = figures.as_mut_array() else {
             return refused(self, Refusal::Places);
         };
-        supply_over(self, figures, answer, out)
+        supply_over(self, figures, place, answer, out)
     }
 
     // Accepts the candidate, with the derivative there.
@@ -976,13 +1015,13 @@ impl Session {
         given_back(left, figures)
     }
 
-    // Supplies the derivative that was asked for: the next question, or the candidate, fills `out`.
+    // Supplies the derivative that the question at `place` asked for: the next question, or the candidate, fills `out`.
     #[tactic(auto, unfolding(crate::specs::Lent::told_by, crate::specs::Figures::session_of, crate::specs::Figures::head_of))]
-    pub fn supply(self, answer: [f64; PLACES], out: &mut [f64]) -> Told
-        ensures { outcome result out.new ≡ supply_call self answer out.old }
+    pub fn supply(self, place: usize, answer: [f64; PLACES], out: &mut [f64]) -> Told
+        ensures { outcome result out.new ≡ supply_call self place answer out.old }
     {
         let mut figures = self.figures();
-        let left = supply_over(self.head(), &mut figures, &answer, &mut *out);
+        let left = supply_over(self.head(), &mut figures, place, &answer, &mut *out);
         given_back(left, figures)
     }
 

@@ -28,14 +28,25 @@ returns-then-not-in_phase c =
     (holds_on Why.Scheme _ c.good2.ensures (ap not c.if-not-good2.false)
     (stops Why.Phase _ c.good7-in_phase.ensures (ap not c.if-not-in_phase.true)))
 
-pub returns-then-not-tolerances : goal.returns-then-not-tolerances
+pub returns-then-not-asked : goal.returns-then-not-asked
 unfolding session_tests
-returns-then-not-tolerances c =
+returns-then-not-asked c =
     let in_phase : c.good7-in_phase.result ≡ true = cc in
     holds_on Why.Places _ c.good1.ensures (ap not c.if-not-good1.false)
     (holds_on Why.Scheme _ c.good2.ensures (ap not c.if-not-good2.false)
     (holds_on Why.Phase _ c.good7-in_phase.ensures (ap not in_phase)
-    (stops Why.Tolerance _ c.good4-tolerances.ensures (ap not c.if-not-tolerances.true))))
+    (stops Why.Question _ c.good9-asked.ensures (ap not c.if-not-asked.true))))
+
+pub returns-then-not-tolerances : goal.returns-then-not-tolerances
+unfolding session_tests
+returns-then-not-tolerances c =
+    let in_phase : c.good7-in_phase.result ≡ true = cc in
+    let asked : c.good9-asked.result ≡ true = cc in
+    holds_on Why.Places _ c.good1.ensures (ap not c.if-not-good1.false)
+    (holds_on Why.Scheme _ c.good2.ensures (ap not c.if-not-good2.false)
+    (holds_on Why.Phase _ c.good7-in_phase.ensures (ap not in_phase)
+    (holds_on Why.Question _ c.good9-asked.ensures (ap not asked)
+    (stops Why.Tolerance _ c.good4-tolerances.ensures (ap not c.if-not-tolerances.true)))))
 
 pub returns-then-not-step : goal.returns-then-not-step
 unfolding session_tests
@@ -43,8 +54,9 @@ returns-then-not-step c =
     holds_on Why.Places _ c.good1.ensures (ap not c.if-not-good1.false)
     (holds_on Why.Scheme _ c.good2.ensures (ap not c.if-not-good2.false)
     (holds_on Why.Phase _ c.good7-in_phase.ensures (ap not c.if-not-in_phase.false)
+    (holds_on Why.Question _ c.good9-asked.ensures (ap not c.if-not-asked.false)
     (holds_on Why.Tolerance _ c.good4-tolerances.ensures (ap not c.if-not-tolerances.false)
-    (stops Why.Step _ (attempt_step _ _ c.good5-step.ensures) (ap not c.if-not-step.true)))))
+    (stops Why.Step _ (attempt_step _ _ c.good5-step.ensures) (ap not c.if-not-step.true))))))
 
 pub returns-then-not-numbers : goal.returns-then-not-numbers
 unfolding session_tests
@@ -52,9 +64,10 @@ returns-then-not-numbers c =
     holds_on Why.Places _ c.good1.ensures (ap not c.if-not-good1.false)
     (holds_on Why.Scheme _ c.good2.ensures (ap not c.if-not-good2.false)
     (holds_on Why.Phase _ c.good7-in_phase.ensures (ap not c.if-not-in_phase.false)
+    (holds_on Why.Question _ c.good9-asked.ensures (ap not c.if-not-asked.false)
     (holds_on Why.Tolerance _ c.good4-tolerances.ensures (ap not c.if-not-tolerances.false)
     (holds_on Why.Step _ (attempt_step _ _ c.good5-step.ensures) (ap not c.if-not-step.false)
-    (stops Why.NotFinite _ c.good3-numbers.ensures (ap not c.if-not-numbers.true))))))
+    (stops Why.NotFinite _ c.good3-numbers.ensures (ap not c.if-not-numbers.true)))))))
 
 pub returns : goal.returns
 unfolding session_tests
@@ -62,6 +75,7 @@ returns c =
     holds_on Why.Places _ c.good1.ensures (ap not c.if-not-good1.false)
     (holds_on Why.Scheme _ c.good2.ensures (ap not c.if-not-good2.false)
     (holds_on Why.Phase _ c.good7-in_phase.ensures (ap not c.if-not-in_phase.false)
+    (holds_on Why.Question _ c.good9-asked.ensures (ap not c.if-not-asked.false)
     (holds_on Why.Tolerance _ c.good4-tolerances.ensures (ap not c.if-not-tolerances.false)
     (holds_on Why.Step _ (attempt_step _ _ c.good5-step.ensures) (ap not c.if-not-step.false)
-    (holds_on Why.NotFinite _ c.good3-numbers.ensures (ap not c.if-not-numbers.false) all_hold)))))
+    (holds_on Why.NotFinite _ c.good3-numbers.ensures (ap not c.if-not-numbers.false) all_hold))))))

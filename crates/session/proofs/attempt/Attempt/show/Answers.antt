@@ -1,8 +1,13 @@
 -- `session::Attempt::show` meets its contract. Assumes nothing.
 use Rattle.std.proofs.Common.{arith}
 use Rattle.session.specs.Figures.{session_of}
-use Rattle.session.proofs.Laws.{show_none, show_question, show_done}
+use Rattle.session.proofs.Laws.{wanted-small, show_none, show_question, show_done}
 use Rattle.session.proofs.attempt.Attempt.show.Goals as goal
+
+pub overflow_cast-result : goal.overflow_cast-result
+unfolding session_of
+overflow_cast-result c =
+    let sound = c.args.self.now.sound in omega (arith, sound.enough, wanted-small c.args.self.now.head.scheme c.args.self.now.head.n c.args.self.now.head.attempt sound.small)
 
 pub copy_out-requires : goal.copy_out-requires
 unfolding session_of
