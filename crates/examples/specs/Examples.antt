@@ -73,9 +73,9 @@ tolerating absolute =
 unfoldable pub begins : Told → Float → Float → Outcome
 begins opened j h = begin_call opened.session h Given (j ∷ replicate 255 zero+) lent
 
--- then the derivative f supplied
+-- then the derivative f supplied, to the first question
 unfoldable pub supplies : Outcome → Float → Outcome
-supplies begun f = supply_call begun.told.session (only f) lent
+supplies begun f = supply_call begun.told.session 0 (only f) lent
 
 -- no question is asked: the step is ready at once, its candidate is x, and its exponentials took so many matrix products
 unfoldable pub Gives : Outcome → Float → ℕ → Type 0
@@ -127,7 +127,7 @@ pub record Examples : Type 0 where
   -- 'with history 1, 3.5'
   pub etd2_history : Gives (begins (remembering Etd2 (num 1) (num 2) (num 1)) zero+ (num 1)) (decimal 35 1) 14
   -- 'Exprb32 with derivative 2 supplied: error norm 0': one question, at time 1
-  pub exprb32_asks : (begins (resting Exprb32 (num 1) (num 2)) zero+ (num 1)).told.answer ≡ Ok (Ask (num 1))
+  pub exprb32_asks : (begins (resting Exprb32 (num 1) (num 2)) zero+ (num 1)).told.answer ≡ Ok (Ask 0 (num 1))
   pub exprb32 : (supplies (begins (resting Exprb32 (num 1) (num 2)) zero+ (num 1)) (num 2)).told.answer ≡ Ok (Ready zero+ 1 1 16)
   -- 's for norm 0.5 is 0'
   pub s_half : Squares 0x3fe0_0000_0000_0000 0
@@ -142,7 +142,7 @@ pub record Examples : Type 0 where
   -- 'Just above 2^31 is refused by 6'
   pub s_above_top : (exponential_call 1 (single 0x41e0_0000_0000_0001) lent).answer ≡ Err Why.Arithmetic
   -- 'Differencing 4·u at 1 gives 4'
-  pub differencing_asks : asked.told.answer ≡ Ok (Ask zero+)
+  pub differencing_asks : asked.told.answer ≡ Ok (Ask 0 zero+)
   pub differencing_ready : differenced.told.answer ≡ Ok (Ready zero+ 1 1 16)
   pub differencing : jacobian_of differenced.told.session ≡ num 4 ∷ []
   -- 'Bare error norm, n = 1, error −3, state and candidate 0, both tolerances 1: 3'
@@ -162,7 +162,7 @@ pub record Examples : Type 0 where
   -- 'n = 1, J = [2^40], step 1'
   pub refused_6 : (begins (resting NorsettEuler (num 1) (num 2)) (of_bits binary64 0x4270_0000_0000_0000) (num 1)).told.answer ≡ Err Why.Arithmetic
   -- 'supply to a resting session'
-  pub refused_7 : (supply_call (resting NorsettEuler (num 1) (num 2)).session (only (num 2)) lent).told.answer ≡ Err Why.Phase
+  pub refused_7 : (supply_call (resting NorsettEuler (num 1) (num 2)).session 0 (only (num 2)) lent).told.answer ≡ Err Why.Phase
 
 -- ---- each component has its own tolerance
 pub record OwnTolerances : Type 0 where
@@ -185,3 +185,27 @@ pub record Reaches : Type 0 where
   pub one : (exponential_call 1 (single 0x3ff0_0000_0000_0000) lent).answer ≡ Ok (Filled 15 1)
   -- phi_1 of 2 at J = [0]: a matrix whose square is zero, divided by 4
   pub phi_action : (phi_call 1 1 (num 1) (zero+ ∷ []) (num 2 ∷ []) lent).answer ≡ Ok (Filled 2 2)
+
+-- ---- questions carry a number
+
+-- Exprb32 with its Jacobian differenced: the column's question, and after its answer 2 the scheme's own
+unfoldable pub column : Outcome
+column = begin_call (resting Exprb32 (num 1) (num 2)).session (num 1) Difference (replicate 256 zero+) lent
+
+unfoldable pub own : Outcome
+own = supplies column (num 2)
+
+-- what an answer 2 to the question at a place comes to
+unfoldable pub answering : Outcome → ℕ → Outcome
+answering o place = supply_call o.told.session place (only (num 2)) lent
+
+pub record Places : Type 0 where
+  pub first : column.told.answer ≡ Ok (Ask 0 zero+)
+  pub second : own.told.answer ≡ Ok (Ask 1 (num 1))
+  -- early: the second question is not asked yet
+  pub early : (answering column 1).told.answer ≡ Err Why.Question
+  -- late, a duplicate of the first answer: the second question is open
+  pub late : (answering own 0).told.answer ≡ Err Why.Question
+  -- the open one's is taken; a duplicate of that, the last, finds nothing asked
+  pub taken : (answering own 1).told.answer ≡ Ok (Ready zero+ 2 1 16)
+  pub over : (answering (answering own 1) 1).told.answer ≡ Err Why.Phase

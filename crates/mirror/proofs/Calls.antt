@@ -77,8 +77,8 @@ module _ {n : ℕ} {σ : ℕ → Bool} where
   shown_m : {b b' s s' : Session} (o o' : List Float) {p p' : Progress} → Lives n σ b b' → Lives n σ s s' → Progresses n σ p p' → Outcomes n σ (shown b s o p) (shown b' s' o' p')
   unfolding shown
   shown_m o o' B S refused_m = refused_outcome Why.Arithmetic (alive B)
-  shown_m o o' B (live N (run_m k t rtol atol held U F W) T) (asking_m z X) =
-      record { tolds = record { answers = refl; sessions = alive (live N (run_m k t rtol atol held U F W) T) }; outs = λ e. written_m X }
+  shown_m o o' B (live N (run_m k t rtol atol held U F W) (trial_m h a c D J R)) (asking_m z X) =
+      record { tolds = record { answers = refl; sessions = alive (live N (run_m k t rtol atol held U F W) (trial_m h a c D J R)) }; outs = λ e. written_m X }
   shown_m o o' B (live N (run_m k t rtol atol held U F W) T) (ended_m work X E G) =
       let S = live N (run_m k t rtol atol held U F W) T in
       record { tolds = record { answers = ap Ok (ready_m work S X E); sessions = alive S }; outs = λ e. written_m X }
@@ -119,11 +119,12 @@ module _ {n : ℕ} {σ : ℕ → Bool} where
       let B = begun_m h (Some Given) refl S J in
       lent_m o o' _ _ (ap tested (begin_tests_lem o o' h (Some Given) e S J)) (alive S) (shown_m o o' S B (progress_m B))
 
-  pub supply_m : {s s' : Session} {x x' : List Float} (o o' : List Float) → length o ≡ length o' → Lives n σ s s' → Placed (within n) σ x x' → Outcomes n σ (supply_call s x o) (supply_call s' x' o')
+  pub supply_m : {s s' : Session} {x x' : List Float} (place : ℕ) (o o' : List Float) → length o ≡ length o' → Lives n σ s s' → Placed (within n) σ x x'
+      → Outcomes n σ (supply_call s place x o) (supply_call s' place x' o')
   unfolding supply_call supply_tests
-  supply_m o o' e S X =
+  supply_m place o o' e S X =
       let B = answered_m S X in
-      lent_m o o' _ _ (ap₂ (λ a b. tested (a ++ b)) (tests_m (Some Asking) S) (vector_m _ _ (length_m o o' e S) S X)) (alive S) (shown_m o o' S B (progress_m B))
+      lent_m o o' _ _ (ap₂ (λ a b. tested (a ++ b)) (tests_m (Some (Asking place)) S) (vector_m _ _ (length_m o o' e S) S X)) (alive S) (shown_m o o' S B (progress_m B))
 
   pub accept_m : {s s' : Session} {x x' : List Float} → Lives n σ s s' → Placed (within n) σ x x' → Tolds n σ (accept_call s x) (accept_call s' x')
   unfolding accept_call accept_tests
@@ -176,9 +177,9 @@ module _ {n : ℕ} {σ : ℕ → Bool} where
   unfolding begin_call begin_tests
   begin_void h w w' j j' o o' = lent_void o o' _ _ _ _ (nothing_then (Some Rest) _) (nothing_then (Some Rest) _)
 
-  pub supply_void : (x x' o o' : List Float) → Outcomes n σ (supply_call nothing x o) (supply_call nothing x' o')
+  pub supply_void : (place : ℕ) (x x' o o' : List Float) → Outcomes n σ (supply_call nothing place x o) (supply_call nothing place x' o')
   unfolding supply_call supply_tests
-  supply_void x x' o o' = lent_void o o' _ _ _ _ (nothing_then (Some Asking) _) (nothing_then (Some Asking) _)
+  supply_void place x x' o o' = lent_void o o' _ _ _ _ (nothing_then (Some (Asking place)) _) (nothing_then (Some (Asking place)) _)
 
   pub accept_void : (x x' : List Float) → Tolds n σ (accept_call nothing x) (accept_call nothing x')
   unfolding accept_call accept_tests

@@ -49,13 +49,13 @@ call_m : {n : ℕ} {turned : ℕ → Bool} {c c' : Call} {s s' : Session} → Fl
     → Outcomes n turned (perform c s) (perform c' s')
 unfolding perform wishes_difference
 call_m (begins h w j o o' e) void q q' = begin_void h w w j _ o o'
-call_m (supplies x o o' e) void q q' = supply_void x _ o o'
+call_m (supplies place x o o' e) void q q' = supply_void place x _ o o'
 call_m (accepts x) void q q' = bare_m (accept_void x _)
 call_m drops void q q' = bare_m drop_void
 call_m (first_steps z) void q q' = bare_m (first_step_void z)
 call_m {n} {turned} (begins h Given j o o' e) (alive S) q q' = begin_m o o' h e S (flipped_m _ _ j)
 call_m {n} {turned} (begins h Difference j o o' e) (alive S) q q' = difference_m o o' h e S (flipped_m _ _ j) (q refl) (q' refl)
-call_m (supplies x o o' e) (alive S) q q' = supply_m o o' e S (flipped_m _ _ x)
+call_m (supplies place x o o' e) (alive S) q q' = supply_m place o o' e S (flipped_m _ _ x)
 call_m (accepts x) (alive S) q q' = bare_m (accept_m S (flipped_m _ _ x))
 call_m drops (alive S) q q' = bare_m (drop_m S)
 call_m (first_steps z) (alive S) q q' = bare_m (first_step_m z S)

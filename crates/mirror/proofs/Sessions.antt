@@ -14,7 +14,7 @@ use Rattle.session.specs.declared.Session.{Session}
 use Rattle.session.specs.declared.History.{History}
 use Rattle.session.specs.declared.History.TheVariants.{Missing, Held}
 use Rattle.session.specs.Session.{Run, Trial, joined, fresh, idle, clear, used_history, used_jacobian, size_ok, step_clear, run_places, attempt_places}
-use Rattle.session.specs.Session.{good1, good2, good3, good4, good5, good7, phase_of, session_tests, previous_of, point_of, progress_of, progress}
+use Rattle.session.specs.Session.{good1, good2, good3, good4, good5, good7, good9, phase_of, session_tests, previous_of, point_of, progress_of, progress}
 use Rattle.session.specs.Calls.{opened, nothing, begun, rested, answered, moved}
 use Rattle.mirror.specs.Mirror.{within}
 use Rattle.mirror.proofs.Floats.{abs_m, div_m, square_m}
@@ -78,6 +78,10 @@ module _ {n : ℕ} {σ : ℕ → Bool} where
   unfolding good7 phase_of
   good7_m wants (live N (run_m k t rtol atol held U F W) (trial_m h a c D J R)) = refl
 
+  good9_m : {s s' : Session} (wants : Option Phase) → Lives n σ s s' → good9 wants s ≡ good9 wants s'
+  unfolding good9
+  good9_m wants (live N (run_m k t rtol atol held U F W) (trial_m h a c D J R)) = refl
+
   good4_m : {s s' : Session} → Lives n σ s s' → good4 s ≡ good4 s'
   unfolding good4
   good4_m (live N (run_m k t rtol atol held U F W) (trial_m h a c D J R)) = refl
@@ -92,7 +96,7 @@ module _ {n : ℕ} {σ : ℕ → Bool} where
 
   pub tests_m : {s s' : Session} (wants : Option Phase) → Lives n σ s s' → session_tests wants s ≡ session_tests wants s'
   unfolding session_tests
-  tests_m wants S = rw (good1_m S, good2_m S, good7_m wants S, good4_m S, good5_m S, good3_m S)
+  tests_m wants S = rw (good1_m S, good2_m S, good7_m wants S, good9_m wants S, good4_m S, good5_m S, good3_m S)
 
   -- ---- figures
   ratio_m : (rtol atol : Float) {u u' x x' e e' : List Float} → Vecs n σ u u' → Vecs n σ x x' → Vecs n σ e e' → (i : ℕ) → i < n

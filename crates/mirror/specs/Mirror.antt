@@ -51,7 +51,8 @@ flipped_opening turned o = record {
 pub data FlippedCall (n : ℕ) (turned : ℕ → Bool) : Call → Call → Type 0 where
   begins : (step : Float) (wish : Wish) (jacobian out out' : List Float) → length out ≡ length out'
       → FlippedCall n turned (begin step wish jacobian out) (begin step wish (flipped (within (used_jacobian (Some wish) n)) (entry_turned n turned) jacobian) out')
-  supplies : (answer out out' : List Float) → length out ≡ length out' → FlippedCall n turned (supply answer out) (supply (flipped (within n) turned answer) out')
+  supplies : (place : ℕ) (answer out out' : List Float) → length out ≡ length out'
+      → FlippedCall n turned (supply place answer out) (supply place (flipped (within n) turned answer) out')
   accepts : (derivative : List Float) → FlippedCall n turned (accept derivative) (accept (flipped (within n) turned derivative))
   drops : FlippedCall n turned drop drop
   first_steps : (largest : Float) → FlippedCall n turned (first_step largest) (first_step largest)
@@ -64,7 +65,7 @@ pub data FlippedCalls (n : ℕ) (turned : ℕ → Bool) : List Call → List Cal
 unfoldable pub wishes_difference : Call → Bool
 wishes_difference (begin step Given jacobian out) = false
 wishes_difference (begin step Difference jacobian out) = true
-wishes_difference (supply answer out) = false
+wishes_difference (supply place answer out) = false
 wishes_difference (accept derivative) = false
 wishes_difference drop = false
 wishes_difference (first_step largest) = false

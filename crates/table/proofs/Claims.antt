@@ -25,12 +25,12 @@ use Rattle.table.specs.Table.{table_ok, derivative}
 use Rattle.table.specs.Whole.{with_derivative, opening_tests, open_by_table, whole_tests, stepped, keeping, whole_step}
 use Rattle.table.specs.Claims.{Openings, WholeSteps}
 use Rattle.table.proofs.Steps.{whole_passes}
-use Rattle.table.proofs.Ends.{verdict, derivative-clear, Ending, stepped_ends, asks_enough, overflow_three, candidate_three}
+use Rattle.table.proofs.Ends.{verdict, derivative-clear, Ending, stepped_ends, asks_enough, place_is, overflow_three, candidate_three}
 
 -- ---- a number that is not 0 is a refusal's
 refusal_of : (a : Result Answer Refusal) → (number a ≡ 0 → ⊥) → is_refused a ≡ true
 unfolding number is_refused values_of figured
-refusal_of (Ok (Ask time)) h = absurd (h refl)
+refusal_of (Ok (Ask place time)) h = absurd (h refl)
 refusal_of (Ok (Ready norm rhs jacobians products)) h = absurd (h refl)
 refusal_of (Ok Resting) h = absurd (h refl)
 refusal_of (Ok (FirstStep step)) h = absurd (h refl)
@@ -145,8 +145,9 @@ whole_steps = record {
   kept = whole_kept;
   order = order;
   later = ends;
-  overflow = λ s t step e m time a f. stepped_answer s t step e ∙ overflow_three s t step (whole_passes s t step e) m time a f;
+  overflow = λ s t step e m place time a f. stepped_answer s t step e ∙ overflow_three s t step (whole_passes s t step e) m place time a f;
   candidate = λ s t step e norm rhs jacobians products a f.
       stepped_answer s t step e ∙ candidate_three s t step (whole_passes s t step e) norm rhs jacobians products a f;
   answered = λ s t step e. asks_enough s t step (whole_passes s t step e);
+  place = λ s t step e. place_is s t step (whole_passes s t step e);
 }

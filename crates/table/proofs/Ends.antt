@@ -22,7 +22,7 @@ use Rattle.session.specs.declared.Wish.TheVariants.{Difference}
 use Rattle.session.specs.declared.Phase.{Phase}
 use Rattle.session.specs.declared.Phase.TheVariants.{Rest, Asking, Waiting}
 use Rattle.session.specs.Tests.{tested, unless}
-use Rattle.session.specs.Session.{Run, jacobian_room, fresh, clear, used_jacobian, wanted, wanted_by, phase_at, phase_of, phase_number, admits, good7, session_tests, progress}
+use Rattle.session.specs.Session.{Run, jacobian_room, fresh, clear, used_jacobian, wanted, wanted_by, phase_at, phase_of, phase_number, admits, names, good7, good9, session_tests, progress}
 use Rattle.session.specs.Calls.{Outcome, tell, refuse, refuse_lent, begun, answered, moved, ready_of, shown, arrived, settled, vector_tests, attempt_tests, begin_tests, supply_tests, accept_tests}
 use Rattle.session.specs.Calls.{begin_call, supply_call, accept_call}
 use Rattle.session.specs.Claims.{Counted, CountedBy, Closed}
@@ -30,6 +30,7 @@ use Rattle.session.proofs.Laws.{session_then, passed_sound}
 use Rattle.session.proofs.Clear.{clear-zeros, finite-zeros, vector_clear}
 use Rattle.session.proofs.Closed.{Good, passed_good, good_closed}
 use Rattle.session.proofs.Counts.{counts}
+use Rattle.session.proofs.Questions.{asked_passes}
 use Rattle.table.specs.Table.{summed, records, derivative}
 use Rattle.table.specs.Whole.{started, answer_to, replied, answers, derivative_there, accept_after, accepted, stepped}
 use Rattle.table.proofs.Steps.{Passed, OnTheWay, started_way, answers_way}
@@ -40,18 +41,16 @@ due s = wanted s.scheme s.n (Some Difference)
 
 -- ---- a session on the way takes what it waits for
 
-attempt_phase : (s : Session) → s.attempt ≡ Some Difference → (b : Bool) → ltb s.count (wanted_by s) ≡ b → phase_of s ≡ cond b Asking Waiting
+attempt_phase : (s : Session) → s.attempt ≡ Some Difference → (b : Bool) → ltb s.count (wanted_by s) ≡ b → phase_of s ≡ cond b (Asking s.count) Waiting
 unfolding phase_of phase_at
-attempt_phase s e b f = ap (λ (a : Option Wish). phase_at a (ltb s.count (wanted_by s))) e ∙ ap (λ (c : Bool). cond c Asking Waiting) f
+attempt_phase s e b f = ap (λ (a : Option Wish). phase_at a s.count (ltb s.count (wanted_by s))) e ∙ ap (λ (c : Bool). cond c (Asking s.count) Waiting) f
 
-asking_passes : (s : Session) → Good s → s.attempt ≡ Some Difference → s.count < wanted_by s → tested (session_tests (Some Asking) s) ≡ Ok tt
-unfolding Closed good7 admits phase_number
-asking_passes s g e h =
-    let p : phase_of s ≡ Asking = attempt_phase s e true (lt-ltb s.count (wanted_by s) h) in
-    good_closed g (Some Asking) ∙ ap (λ (q : Phase). cond (eqb 1 (phase_number q)) (Ok tt) (Err Why.Phase)) p
+asking_passes : (s : Session) (place : ℕ) → Good s → s.attempt ≡ Some Difference → s.count < wanted_by s → place ≡ s.count → tested (session_tests (Some (Asking place)) s) ≡ Ok tt
+asking_passes s place g e h named =
+    asked_passes s place (good_closed g) (attempt_phase s e true (lt-ltb s.count (wanted_by s) h) ∙ ap Asking (sym named))
 
 waiting_passes : (s : Session) → Good s → s.attempt ≡ Some Difference → s.count ≡ wanted_by s → tested (session_tests (Some Waiting) s) ≡ Ok tt
-unfolding Closed good7 admits phase_number
+unfolding Closed good7 good9 admits names phase_number
 waiting_passes s g e h =
     let p : phase_of s ≡ Waiting = attempt_phase s e false (le-ltb s.count (wanted_by s) (omega (arith, h))) in
     good_closed g (Some Waiting) ∙ ap (λ (q : Phase). cond (eqb 2 (phase_number q)) (Ok tt) (Err Why.Phase)) p
@@ -72,7 +71,9 @@ handed_verdict n d lent e f = rw (e, f)
 
 -- ---- where an attempt stands after m answers
 
-pub record Asks (n m : ℕ) (o : Outcome) : Type 0 where
+-- it asks the question at a place
+pub record Asks (n m place : ℕ) (o : Outcome) : Type 0 where
+  pub named : place ≡ o.told.session.count
   pub count : o.told.session.count ≡ m
   pub few : o.told.session.count < wanted_by o.told.session
   pub attempt : o.told.session.attempt ≡ Some Difference
@@ -83,7 +84,7 @@ pub record Waits (o : Outcome) : Type 0 where
   pub attempt : o.told.session.attempt ≡ Some Difference
 
 unfoldable pub StandsBy : Result Answer Refusal → ℕ → ℕ → Outcome → Type 0
-StandsBy (Ok (Ask time)) n m o = Asks n m o
+StandsBy (Ok (Ask place time)) n m o = Asks n m place o
 StandsBy (Ok (Ready norm rhs jacobians products)) n m o = Waits o
 StandsBy (Ok Resting) n m o = ⊥
 StandsBy (Ok (FirstStep step)) n m o = ⊥
@@ -99,7 +100,7 @@ shown_stands : (old next : Session) (out : List Float) (m : ℕ) (p : Progress) 
     → Stands next.n m (shown old next out p)
 unfolding shown StandsBy Counted CountedBy ready_of
 shown_stands old next out m refused c e f = inr refl
-shown_stands old next out m (asking x time) c e f = record { count = e; few = c; attempt = f; room = length-tab next.n (λ i. x ! i) }
+shown_stands old next out m (asking x time) c e f = record { named = refl; count = e; few = c; attempt = f; room = length-tab next.n (λ i. x ! i) }
 shown_stands old next out m (ended x d g w) c e f = record { all = c; attempt = f }
 
 -- after begin: the attempt that it starts
@@ -140,23 +141,23 @@ module _ (n : ℕ) (t : List ℕ) (small : n ≤ places) (o : Outcome) (same : o
   abbrev S : Session
   S = o.told.session
 
-  module _ (m : ℕ) (asks : Asks n m o) (time : Float) where
+  module _ (m place : ℕ) (asks : Asks n m place o) (time : Float) where
     abbrev d : List Float
     d = derivative n t time o.out
 
-    supply_verdict : (b : Bool) → all_finite d ≡ b → verdict b ≡ tested (supply_tests S d (length o.out))
+    supply_verdict : (b : Bool) → all_finite d ≡ b → verdict b ≡ tested (supply_tests S place d (length o.out))
     unfolding supply_tests
     supply_verdict b e =
-        session_then (Some Asking) S (vector_tests S.n d (eqb (length o.out) S.n)) (sym (asking_passes S good asks.attempt asks.few)) refl
+        session_then (Some (Asking place)) S (vector_tests S.n d (eqb (length o.out) S.n)) (sym (asking_passes S place good asks.attempt asks.few asks.named)) refl
         (ap verdict (sym e)
         ∙ handed_verdict S.n d (eqb (length o.out) S.n) (subst (λ (k : ℕ). clear k d ≡ true) (sym same) (derivative-clear n t time o.out small))
         (eq-eqb (length o.out) S.n (asks.room ∙ sym same)))
 
-    pub supply_three : all_finite d ≡ false → supply_call S d o.out ≡ refuse_lent S o.out Why.NotFinite
+    pub supply_three : all_finite d ≡ false → supply_call S place d o.out ≡ refuse_lent S o.out Why.NotFinite
     unfolding supply_call unless
     supply_three e = rw (← (supply_verdict false e))
 
-    supply_shown : all_finite d ≡ true → supply_call S d o.out ≡ shown S (answered S d) o.out (progress (answered S d))
+    supply_shown : all_finite d ≡ true → supply_call S place d o.out ≡ shown S (answered S d) o.out (progress (answered S d))
     unfolding supply_call unless
     supply_shown e = rw (← (supply_verdict true e))
 
@@ -165,14 +166,14 @@ module _ (n : ℕ) (t : List ℕ) (small : n ≤ places) (o : Outcome) (same : o
         subst (λ (k : ℕ). Stands k (m + 1) (shown S (answered S d) o.out p)) same
         (unfold answered in shown_stands S (answered S d) o.out (m + 1) p c (ap (λ (k : ℕ). k + 1) asks.count) asks.attempt)
 
-    supplied_stands : Stands n (m + 1) (supply_call S d o.out)
+    supplied_stands : Stands n (m + 1) (supply_call S place d o.out)
     supplied_stands = go (all_finite d) refl
       where
-        go : (b : Bool) → all_finite d ≡ b → Stands n (m + 1) (supply_call S d o.out)
+        go : (b : Bool) → all_finite d ≡ b → Stands n (m + 1) (supply_call S place d o.out)
         go false e = subst (Stands n (m + 1)) (sym (supply_three e)) (unfold StandsBy in inl refl)
         go true e =
             subst (Stands n (m + 1)) (sym (supply_shown e))
-            (answered_stands (progress (answered S d)) (subst (λ (r : Outcome). Counted r.told) (supply_shown e) (counts.supply S d o.out)))
+            (answered_stands (progress (answered S d)) (subst (λ (r : Outcome). Counted r.told) (supply_shown e) (counts.supply S place d o.out)))
 
   pub replied_stands : (m : ℕ) → Stands n m o → Stands n (m + 1) (replied n t o)
   unfolding replied
@@ -182,7 +183,7 @@ module _ (n : ℕ) (t : List ℕ) (small : n ≤ places) (o : Outcome) (same : o
       stays a e h = subst (λ (b : Result Answer Refusal). StandsBy b n (m + 1) o) (sym e) h
 
       go : (a : Result Answer Refusal) → o.told.answer ≡ a → StandsBy a n m o → Stands n (m + 1) (answer_to a n t o)
-      go (Ok (Ask time)) e h = unfold answer_to in supplied_stands m (unfold StandsBy in h) time
+      go (Ok (Ask place time)) e h = unfold answer_to in supplied_stands m place (unfold StandsBy in h) time
       go (Ok (Ready norm rhs jacobians products)) e h = unfold answer_to in stays (Ok (Ready norm rhs jacobians products)) e (unfold StandsBy in h)
       go (Ok Resting) e h = absurd (unfold StandsBy in h)
       go (Ok (FirstStep step)) e h = absurd (unfold StandsBy in h)
@@ -221,13 +222,20 @@ module _ (s : Session) (t : List ℕ) (step : Float) (p : Passed s t step) where
   abbrev last : Outcome
   last = answers s.n t (due s) (started s step)
 
-  asks_no_more : Asks s.n (due s) last → ⊥
-  asks_no_more a =
+  asks_no_more : (place : ℕ) → Asks s.n (due s) place last → ⊥
+  asks_no_more place a =
       let w = way_wanted s last (way (due s)) a.attempt in
       absurd (omega (arith, a.count, a.few, w))
 
-  pub asks_enough : (time : Float) → last.told.answer ≡ Ok (Ask time) → ⊥
-  asks_enough time e = asks_no_more (unfold StandsBy in subst (λ (b : Result Answer Refusal). StandsBy b s.n (due s) last) e (stands (due s)))
+  -- the m-th question carries m
+  pub asks_at : (m place : ℕ) (time : Float) → (answers s.n t m (started s step)).told.answer ≡ Ok (Ask place time) → Asks s.n m place (answers s.n t m (started s step))
+  asks_at m place time e = unfold StandsBy in subst (λ (b : Result Answer Refusal). StandsBy b s.n m (answers s.n t m (started s step))) e (stands m)
+
+  pub place_is : (m place : ℕ) (time : Float) → (answers s.n t m (started s step)).told.answer ≡ Ok (Ask place time) → place ≡ m
+  place_is m place time e = let a = asks_at m place time e in a.named ∙ a.count
+
+  pub asks_enough : (place : ℕ) (time : Float) → last.told.answer ≡ Ok (Ask place time) → ⊥
+  asks_enough place time e = asks_no_more place (asks_at (due s) place time e)
 
 -- ---- what accept makes of a candidate
 
@@ -290,7 +298,7 @@ module _ (s : Session) (t : List ℕ) (step : Float) (p : Passed s t step) where
   stepped_ends = go end.told.answer refl (stands s t step p (due s))
     where
       go : (a : Result Answer Refusal) → end.told.answer ≡ a → StandsBy a s.n (due s) end → Ending (accept_after a s.n t end).answer
-      go (Ok (Ask time)) e h = absurd (asks_enough s t step p time e)
+      go (Ok (Ask place time)) e h = absurd (asks_enough s t step p place time e)
       go (Ok (Ready norm rhs jacobians products)) e h =
           let w = way s t step p (due s) in
           unfold accept_after in accept_ends s.n t (small s t step p) end (way_size s end w) w.good (unfold StandsBy in h)
@@ -326,22 +334,22 @@ module _ (s : Session) (t : List ℕ) (step : Float) (p : Passed s t step) where
   unfolding stepped accepted accept_after
   stepped_refused k e = ap (λ (a : Result Answer Refusal). (accept_after a s.n t (asked (due s))).answer) e ∙ e
 
-  one_refused : (m : ℕ) (time : Float) → (asked m).told.answer ≡ Ok (Ask time) → Asks s.n m (asked m) → all_finite (derivative s.n t time (asked m).out) ≡ false
+  one_refused : (m place : ℕ) (time : Float) → (asked m).told.answer ≡ Ok (Ask place time) → Asks s.n m place (asked m) → all_finite (derivative s.n t time (asked m).out) ≡ false
       → (asked (suc m)).told.answer ≡ Err Why.NotFinite
   unfolding answers iter replied answer_to
-  one_refused m time e a f =
+  one_refused m place time e a f =
       let w = way s t step p m in
       ap (λ (b : Result Answer Refusal). (answer_to b s.n t (asked m)).told.answer) e
-      ∙ ap (λ (r : Outcome). r.told.answer) (supply_three s.n t (small s t step p) (asked m) (way_size s (asked m) w) w.good m a time f)
+      ∙ ap (λ (r : Outcome). r.told.answer) (supply_three s.n t (small s t step p) (asked m) (way_size s (asked m) w) w.good m place a time f)
 
-  pub overflow_three : (m : ℕ) (time : Float) → (asked m).told.answer ≡ Ok (Ask time) → all_finite (derivative s.n t time (asked m).out) ≡ false
+  pub overflow_three : (m place : ℕ) (time : Float) → (asked m).told.answer ≡ Ok (Ask place time) → all_finite (derivative s.n t time (asked m).out) ≡ false
       → (stepped s t step).answer ≡ Err Why.NotFinite
-  overflow_three m time e f =
-      let a : Asks s.n m (asked m) = unfold StandsBy in subst (λ (b : Result Answer Refusal). StandsBy b s.n m (asked m)) e (stands s t step p m) in
+  overflow_three m place time e f =
+      let a = asks_at s t step p m place time e in
       let w : wanted_by (asked m).told.session ≡ due s = way_wanted s (asked m) (way s t step p m) a.attempt in
       let all : (due s - suc m) + suc m ≡ due s = omega (arith, a.count, a.few, w) in
       stepped_refused Why.NotFinite (subst (λ (i : ℕ). (asked i).told.answer ≡ Err Why.NotFinite) all
-      (refused_on s.n t (started s step) Why.NotFinite (suc m) (due s - suc m) (one_refused m time e a f)))
+      (refused_on s.n t (started s step) Why.NotFinite (suc m) (due s - suc m) (one_refused m place time e a f)))
 
   pub candidate_three : (norm : Float) (rhs jacobians products : ℕ) → (asked (due s)).told.answer ≡ Ok (Ready norm rhs jacobians products)
       → all_finite (derivative_there s.n t (asked (due s))) ≡ false → (stepped s t step).answer ≡ Err Why.NotFinite

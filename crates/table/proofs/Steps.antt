@@ -40,7 +40,7 @@ length-derivative n t time u h = length-vec n (λ i. summed t time u i (records 
 -- a refusal is an error, and nothing else is
 refusal_is : (a : Result Answer Refusal) → is_refused a ≡ is_err a
 unfolding is_refused values_of figured
-refusal_is (Ok (Ask time)) = refl
+refusal_is (Ok (Ask place time)) = refl
 refusal_is (Ok (Ready norm rhs jacobians products)) = refl
 refusal_is (Ok Resting) = refl
 refusal_is (Ok (FirstStep step)) = refl
@@ -58,9 +58,9 @@ begin_good : (s : Session) (step : Float) (j out : List Float) → Good s → Go
 unfolding after perform TypedCalls TypedCall
 begin_good s step j out g = after_good (begin step Difference j out ∷ []) s (tt, tt) g
 
-supply_good : (s : Session) (x out : List Float) → length x ≡ places → Good s → Good (supply_call s x out).told.session
+supply_good : (s : Session) (place : ℕ) (x out : List Float) → length x ≡ places → Good s → Good (supply_call s place x out).told.session
 unfolding after perform TypedCalls TypedCall
-supply_good s x out h g = after_good (supply x out ∷ []) s (h, tt) g
+supply_good s place x out h g = after_good (supply place x out ∷ []) s (h, tt) g
 
 pub started_way : (s : Session) (step : Float) → Good s → OnTheWay s (started s step)
 unfolding started
@@ -75,11 +75,11 @@ module _ (s : Session) (n : ℕ) (t : List ℕ) (small : n ≤ places) where
   replied_way o w = go o.told.answer
     where
       go : (a : Result Answer Refusal) → OnTheWay s (answer_to a n t o)
-      go (Ok (Ask time)) =
+      go (Ok (Ask place time)) =
           let d = derivative n t time o.out in
           unfold answer_to in record {
-            run = supply_run o.told.session d o.out ∙ w.run;
-            good = supply_good o.told.session d o.out (length-derivative n t time o.out small) w.good;
+            run = supply_run o.told.session place d o.out ∙ w.run;
+            good = supply_good o.told.session place d o.out (length-derivative n t time o.out small) w.good;
           }
       go (Ok (Ready norm rhs jacobians products)) = unfold answer_to in w
       go (Ok Resting) = unfold answer_to in w
@@ -101,7 +101,7 @@ unfolding accepted
 accepted_same n t o = go o.told.answer
   where
     go : (a : Result Answer Refusal) → is_refused (accept_after a n t o).answer ≡ true → (accept_after a n t o).session ≡ o.told.session
-    go (Ok (Ask time)) e = unfold accept_after in refl
+    go (Ok (Ask place time)) e = unfold accept_after in refl
     go (Ok (Ready norm rhs jacobians products)) e = unfold accept_after in accept_same o.told.session (derivative_there n t o) (unfold accept_after in e)
     go (Ok Resting) e = unfold accept_after in refl
     go (Ok (FirstStep step)) e = unfold accept_after in refl

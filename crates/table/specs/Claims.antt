@@ -33,8 +33,8 @@ pub record WholeSteps : Type 0 where
   pub later : (s : Session) (t : List ℕ) (step : Float) → tested (whole_tests s t step) ≡ Ok tt → ((whole_step s t step).answer ≡ Ok Resting)
       ⊎ (((whole_step s t step).answer ≡ Err Why.NotFinite) ⊎ ((whole_step s t step).answer ≡ Err Why.Arithmetic))
   -- an overflowing derivative is 3: at the m-th question ..
-  pub overflow : (s : Session) (t : List ℕ) (step : Float) → tested (whole_tests s t step) ≡ Ok tt → (m : ℕ) (time : Float)
-      → let o = answers s.n t m (started s step) in o.told.answer ≡ Ok (Ask time) → all_finite (derivative s.n t time o.out) ≡ false
+  pub overflow : (s : Session) (t : List ℕ) (step : Float) → tested (whole_tests s t step) ≡ Ok tt → (m place : ℕ) (time : Float)
+      → let o = answers s.n t m (started s step) in o.told.answer ≡ Ok (Ask place time) → all_finite (derivative s.n t time o.out) ≡ false
       → (whole_step s t step).answer ≡ Err Why.NotFinite
   -- .. and at the candidate, whatever the new time is
   pub candidate : (s : Session) (t : List ℕ) (step : Float) → tested (whole_tests s t step) ≡ Ok tt → (norm : Float) (rhs jacobians products : ℕ)
@@ -42,4 +42,7 @@ pub record WholeSteps : Type 0 where
       o.told.answer ≡ Ok (Ready norm rhs jacobians products) → all_finite (derivative_there s.n t o) ≡ false → (whole_step s t step).answer ≡ Err Why.NotFinite
   -- after the answers that the attempt wants nothing is asked
   pub answered : (s : Session) (t : List ℕ) (step : Float) → tested (whole_tests s t step) ≡ Ok tt
-      → (time : Float) → (answers s.n t (wanted s.scheme s.n (Some Difference)) (started s step)).told.answer ≡ Ok (Ask time) → ⊥
+      → (place : ℕ) (time : Float) → (answers s.n t (wanted s.scheme s.n (Some Difference)) (started s step)).told.answer ≡ Ok (Ask place time) → ⊥
+  -- the place of each question is handed on: the m-th of them, from 0, carries m
+  pub place : (s : Session) (t : List ℕ) (step : Float) → tested (whole_tests s t step) ≡ Ok tt → (m place : ℕ) (time : Float)
+      → (answers s.n t m (started s step)).told.answer ≡ Ok (Ask place time) → place ≡ m

@@ -55,9 +55,9 @@ whole_tests s t step = session_tests (Some Rest) s ++ handed_tests s.n t step
 unfoldable pub started : Session → Float → Outcome
 started s step = begin_call s step Difference (replicate jacobian_room zero+) (replicate s.n zero+)
 
--- the answer to an Ask: the table's derivative at the state and the time asked about. Nothing else is answered
+-- the answer to an Ask, at its place: the table's derivative at the state and the time asked about. Nothing else is answered
 unfoldable pub answer_to : Result Answer Refusal → ℕ → List ℕ → Outcome → Outcome
-answer_to (Ok (Ask time)) n t o = supply_call o.told.session (derivative n t time o.out) o.out
+answer_to (Ok (Ask place time)) n t o = supply_call o.told.session place (derivative n t time o.out) o.out
 answer_to (Ok (Ready norm rhs jacobians products)) n t o = o
 answer_to (Ok Resting) n t o = o
 answer_to (Ok (FirstStep step)) n t o = o
@@ -78,7 +78,7 @@ derivative_there n t o = derivative n t (o.told.session.time ⊕ o.told.session.
 
 -- a candidate is accepted, whatever its norm; a refusal stays one
 unfoldable pub accept_after : Result Answer Refusal → ℕ → List ℕ → Outcome → Told
-accept_after (Ok (Ask time)) n t o = o.told
+accept_after (Ok (Ask place time)) n t o = o.told
 accept_after (Ok (Ready norm rhs jacobians products)) n t o = accept_call o.told.session (derivative_there n t o)
 accept_after (Ok Resting) n t o = o.told
 accept_after (Ok (FirstStep step)) n t o = o.told

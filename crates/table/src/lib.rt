@@ -200,7 +200,7 @@ fn test_whole<'a>(
 // Parts of a whole step, into room for the states asked about and the candidate, and into one for the derivatives there.
 // Kept: the derivatives are handed out through lent room, where an array could be given back: each array of sixteen in a whole step stands on the stack below the deepest call.
 impl Table<'_> {
-    // Answers the question, if one is asked: the derivative at its state and time.
+    // Answers the question, if one is asked, at its place: the derivative at its state and time.
     #[tactic(auto, unfolding(crate::specs::Whole::replied, crate::specs::Whole::answer_to))]
     fn reply(
         &self,
@@ -213,11 +213,11 @@ impl Table<'_> {
         ensures { outcome (told_by left.new figures.new) room.new
             ≡ replied self.now.n self.now.bytes.now (outcome (told_by left.old figures.old) room.old) }
     {
-        let Ok(Answer::Ask(time)) = left.answer else {
+        let Ok(Answer::Ask(place, time)) = left.answer else {
             return;
         };
         self.derivative(time, room, slope);
-        *left = session::supply_over(left.head, figures, slope, room);
+        *left = session::supply_over(left.head, figures, place as usize, slope, room);
     }
 
     // Answers as many questions as the attempt wants answers.
