@@ -106,11 +106,12 @@ fn begin<R: Read, W: Write>(pipe: &mut Pipe<R, W>, s: Session) -> io::Result<Ses
 }
 
 fn supply<R: Read, W: Write>(pipe: &mut Pipe<R, W>, s: Session) -> io::Result<Session> {
+    let place = wire::get_u8(&mut pipe.input)?;
     let answer = read_vector(pipe)?;
     let lent = read_length(pipe, ROOM)?;
     let mut out = [-1.5; ROOM];
     let out = &mut out[..lent];
-    let s = told(pipe, s.supply(answer, out))?;
+    let s = told(pipe, s.supply(place as usize, answer, out))?;
     wire::put_doubles(&mut pipe.output, out)?;
     Ok(s)
 }

@@ -43,8 +43,8 @@ pub const BYTES: usize = NUMBERS + 8 * FIGURES;
 
 pub const OLD_BYTES: usize = NUMBERS + 8 * OLD_FIGURES;
 
-// Among the words in which a reply's outcome, refusal and counts cross. Of Ready the counts are right-hand sides, Jacobians and matrix
-// products; of Filled terms, squarings and 0; of any other outcome 0.
+// Among the words in which a reply's outcome, refusal and counts cross. Of Ask the first count is the question's place; of Ready they are right-hand sides, Jacobians and matrix
+// products; of Filled terms, squarings and 0; all others are 0.
 pub const OUTCOME_AT: usize = 0;
 
 pub const REFUSAL_AT: usize = OUTCOME_AT + 1;
@@ -189,7 +189,12 @@ fn told(answer: Answer) -> Reply
     ensures { fields result ≡ values_of (Ok answer) }
 {
     match answer {
-        Answer::Ask(time) => figured(Outcome::Ask, time),
+        Answer::Ask(place, time) => Reply {
+            outcome: Outcome::Ask,
+            refusal: 0,
+            figure: time,
+            counts: [place, 0, 0],
+        },
         Answer::Ready(norm, rhs, jacobians, products) => Reply {
             outcome: Outcome::Ready,
             refusal: 0,

@@ -114,7 +114,7 @@ whole x n y h e = (rw e at h).same
 -- three counts of every answer
 pub counts_three : (a : Result Answer Refusal) → length (values_of a).counts ≡ 3
 unfolding values_of figured
-counts_three (Ok (Ask time)) = refl
+counts_three (Ok (Ask place time)) = refl
 counts_three (Ok (Ready norm rhs jacobians products)) = refl
 counts_three (Ok Resting) = refl
 counts_three (Ok (FirstStep step)) = refl

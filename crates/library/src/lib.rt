@@ -3,8 +3,8 @@
 // Each function tests every length itself and requires nothing. It returns 0 where the call was made, and 1 where a slice has another length
 // than its own; then nothing is touched. What the call tells is left in `words`, 5 of them (outcome, refusal, three counts), and `told`, one
 // figure: Ask's time, Ready's error norm, the first step, the norm, otherwise +0.0. Outcomes: 0 Refused, 1 Ask, 2 Ready, 3 Resting,
-// 4 First step, 5 Filled, 6 Norm. The counts are, of Ready, right-hand sides, Jacobians and matrix products; of Filled, terms, squarings and
-// 0; otherwise 0.
+// 4 First step, 5 Filled, 6 Norm. The counts are, of Ask, the question's place, 0 and 0; of Ready, right-hand sides, Jacobians and matrix
+// products; of Filled, terms, squarings and 0; otherwise 0.
 //
 // A call works on the figures that it is lent, copies no session, and writes only what changes. A refused call leaves numbers, figures and
 // output as they were. A refused open overwrites numbers and figures, whatever they held: they become those of the session that a refused open
@@ -244,18 +244,19 @@ pub extern "C" fn vunchrem_begin(
     0
 }
 
-// Supplies the derivative that was asked for: the next question, or the candidate, fills `out`.
+// Supplies the derivative that the question at `place` asked for: the next question, or the candidate, fills `out`.
 #[unsafe(no_mangle)]
 pub extern "C" fn vunchrem_supply(
     numbers: &mut [u64],
     figures: &mut [f64],
+    place: u64,
     answer: &[f64],
     out: &mut [f64],
     words: &mut [u64],
     told: &mut [f64],
 ) -> u32
     ensures { CallLent (eqb (length answer.now) VECTOR)
-        (λ s out. supply_call s answer.now out) result
+        (λ s out. supply_call s place answer.now out) result
         (slices numbers.old figures.old words.old told.old)
         (slices numbers.new figures.new words.new told.new)
         out.entry.now out.exit.now }
@@ -264,7 +265,7 @@ pub extern "C" fn vunchrem_supply(
     let Some(k) = held(fits, numbers, figures, words, told) else {
         return 1;
     };
-    let left = k.supply(figures, answer, out);
+    let left = k.supply(figures, place as usize, answer, out);
     give_back(left, numbers, words, told);
     0
 }

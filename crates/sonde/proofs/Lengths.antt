@@ -108,11 +108,11 @@ module _ (s : Session) (l : Long s) where
       unless_either (tested (begin_tests s step (Some Difference) (replicate jacobian_room zero+) (length out))) (refuse_lent s out) (shown s next out (progress next))
       (λ (o : Outcome). Long o.told.session) (λ j. l) (λ _. shown_long next out (progress next) (begun_long step))
 
-  supplied_long : (x out : List Float) → Long (supply_call s x out).told.session
+  supplied_long : (place : ℕ) (x out : List Float) → Long (supply_call s place x out).told.session
   unfolding supply_call
-  supplied_long x out =
+  supplied_long place x out =
       let next = answered s x in
-      unless_either (tested (supply_tests s x (length out))) (refuse_lent s out) (shown s next out (progress next)) (λ (o : Outcome). Long o.told.session) (λ j. l)
+      unless_either (tested (supply_tests s place x (length out))) (refuse_lent s out) (shown s next out (progress next)) (λ (o : Outcome). Long o.told.session) (λ j. l)
       (λ _. shown_long next out (progress next) (answered_long x))
 
   arrived_long : (b : Bool) (next : Session) → Long next → Long (cond b (tell Resting next) (refuse s Why.Arithmetic)).session
@@ -139,7 +139,7 @@ module _ (n : ℕ) (t : List ℕ) (small : n ≤ places) where
   replied_long o l = go o.told.answer
     where
       go : (a : Result Answer Refusal) → Long (answer_to a n t o).told.session
-      go (Ok (Ask time)) = unfold answer_to in supplied_long o.told.session l (derivative n t time o.out) o.out
+      go (Ok (Ask place time)) = unfold answer_to in supplied_long o.told.session l place (derivative n t time o.out) o.out
       go (Ok (Ready norm rhs jacobians products)) = unfold answer_to in l
       go (Ok Resting) = unfold answer_to in l
       go (Ok (FirstStep step)) = unfold answer_to in l
@@ -157,7 +157,7 @@ module _ (n : ℕ) (t : List ℕ) (small : n ≤ places) where
   ended_long o l = go o.told.answer
     where
       go : (a : Result Answer Refusal) → Long (accept_after a n t o).session
-      go (Ok (Ask time)) = unfold accept_after in l
+      go (Ok (Ask place time)) = unfold accept_after in l
       go (Ok (Ready norm rhs jacobians products)) =
           unfold accept_after in accepted_long o.told.session l (derivative_there n t o) (unfold derivative_there in length-derivative n t _ o.out small)
       go (Ok Resting) = unfold accept_after in l

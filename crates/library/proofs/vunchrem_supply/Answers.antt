@@ -23,5 +23,5 @@ returns c =
     rw h.both (
       refl,
       lent_back_out c.args.numbers.now c.args.figures.now _ h.slices.figures (right_long _ _ _ _ h.slices.figures (eqb-true _ _ h.fits)) c.give_back.ensures.0 c.give_back.ensures.1
-          (λ (s : Session) (o : List Float). supply_call s c.args.answer.now o) c.args.out.now (rw (h.head) at c.supply-left.ensures) (supply_same _ _ _),
+          (λ (s : Session) (o : List Float). supply_call s c.args.place c.args.answer.now o) c.args.out.now (rw (h.head) at c.supply-left.ensures) (supply_same _ _ _ _),
     )
