@@ -39,7 +39,7 @@ pub const BYTES: usize = NUMBERS + 8 * FIGURES;
 pub enum Call {
     Open(Opening),
     Begin { supplied: bool, step: f64, jacobian: Box<Matrix>, lent: usize },
-    Supply { answer: Vector, lent: usize },
+    Supply { place: u8, answer: Vector, lent: usize },
     Accept { derivative: Vector },
     Drop,
     FirstStep { largest: f64 },
@@ -86,7 +86,7 @@ impl Console {
             Call::Begin { supplied, step, jacobian, .. } => {
                 session.begin(*supplied, *step, jacobian, &mut lent)
             }
-            Call::Supply { answer, .. } => session.supply(answer, &mut lent),
+            Call::Supply { place, answer, .. } => session.supply(*place, answer, &mut lent),
             Call::Accept { derivative } => session.accept(derivative),
             Call::Drop => session.drop_attempt(),
             Call::FirstStep { largest } => session.first_step(*largest),
@@ -152,7 +152,7 @@ pub fn read_call(reader: &mut Reader) -> Option<Call> {
             jacobian: Box::new(reader.array()?),
             lent: length(reader)?,
         },
-        SUPPLY => Call::Supply { answer: reader.array()?, lent: length(reader)? },
+        SUPPLY => Call::Supply { place: reader.byte()?, answer: reader.array()?, lent: length(reader)? },
         ACCEPT => Call::Accept { derivative: reader.array()? },
         DROP => Call::Drop,
         FIRST_STEP => Call::FirstStep { largest: reader.double()? },
@@ -267,7 +267,7 @@ pub fn put_image(out: &mut Vec<u8>, session: &Session) {
 pub fn put_answer(out: &mut Vec<u8>, answer: &Answer) {
     let (outcome, refusal, figure, counts) = match *answer {
         Answer::Refused(number) => (0, number, 0.0, [0; 3]),
-        Answer::Ask { time } => (1, 0, time, [0; 3]),
+        Answer::Ask { place, time } => (1, 0, time, [u32::from(place), 0, 0]),
         Answer::Ready { norm, right_hand_sides, jacobians, products } => {
             (2, 0, norm, [right_hand_sides, jacobians, products])
         }
@@ -299,8 +299,8 @@ pub fn put_call(out: &mut Vec<u8>, call: &Call) {
             put_doubles(out, &jacobian[..]);
             put_length(out, *lent);
         }
-        Call::Supply { answer, lent } => {
-            out.push(SUPPLY);
+        Call::Supply { place, answer, lent } => {
+            out.extend([SUPPLY, *place]);
             put_doubles(out, answer);
             put_length(out, *lent);
         }

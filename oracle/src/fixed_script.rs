@@ -1,10 +1,12 @@
 //! The fixed script: every op, every refusal number on the session and on what is handed in, the order of the
 //! checks, every scheme with a Jacobian supplied and differenced and as stiff as can be, the examples of document 01,
-//! tolerances that differ, old sessions and whole steps. The list adds random calls to it, so that the gate replays them too.
+//! tolerances that differ, old sessions, whole steps and the places of questions. The list adds random calls to it, so that
+//! the gate replays them too.
 
 use crate::bits::power_of_two;
 use crate::console::Call;
 use crate::field::Field;
+use crate::fixed_places::places;
 use crate::fixed_steps::whole_steps;
 use crate::lists::List;
 use crate::model::{Answer, Attempt, Matrix, Opening, PLACES, Session, Vector};
@@ -55,6 +57,7 @@ pub fn fixed_script() -> Script {
     tolerances_refused(&mut script);
     old_sessions(&mut script);
     whole_steps(&mut script);
+    places(&mut script);
     script.call(&Call::Show);
     script
 }
@@ -65,7 +68,7 @@ pub(crate) fn vector(values: &[f64]) -> Vector {
     vector
 }
 
-fn matrix(values: &[f64]) -> Box<Matrix> {
+pub(crate) fn matrix(values: &[f64]) -> Box<Matrix> {
     let mut matrix = [0.0; PLACES * PLACES];
     matrix[..values.len()].copy_from_slice(values);
     Box::new(matrix)
@@ -86,7 +89,7 @@ pub(crate) fn opening(scheme: usize, state: f64, derivative: f64) -> Opening {
     }
 }
 
-fn begin(step: f64, jacobian: f64) -> Call {
+pub(crate) fn begin(step: f64, jacobian: f64) -> Call {
     Call::Begin { supplied: true, step, jacobian: matrix(&[jacobian]), lent: 1 }
 }
 
@@ -94,11 +97,11 @@ pub(crate) fn difference(step: f64, n: usize) -> Call {
     Call::Begin { supplied: false, step, jacobian: matrix(&[]), lent: n }
 }
 
-fn supply(answer: f64) -> Call {
-    Call::Supply { answer: vector(&[answer]), lent: 1 }
+pub(crate) fn supply(place: usize, answer: f64) -> Call {
+    Call::Supply { place: place as u8, answer: vector(&[answer]), lent: 1 }
 }
 
-fn accept(derivative: f64) -> Call {
+pub(crate) fn accept(derivative: f64) -> Call {
     Call::Accept { derivative: vector(&[derivative]) }
 }
 
@@ -125,11 +128,11 @@ fn examples(script: &mut Script) {
     script.call(&Call::Show);
     script.call(&Call::Open(opening(14, 1.0, 2.0)));
     script.call(&begin(1.0, 0.0));
-    script.call(&supply(2.0));
+    script.call(&supply(0, 2.0));
     // Differencing 4 u at 1: the answer at 1 + 2^-25.
     script.call(&Call::Open(opening(1, 1.0, 4.0)));
     script.call(&difference(1.0, 1));
-    script.call(&supply(4.0 * (1.0 + power_of_two(-25))));
+    script.call(&supply(0, 4.0 * (1.0 + power_of_two(-25))));
     script.call(&Call::ErrorNorm {
         n: 1,
         relative: 1.0,
@@ -165,13 +168,13 @@ fn whole_run(script: &mut Script, scheme: usize, supplied: bool, random: &mut Ra
         };
         let mut told = script.call(&call);
         let mut asked = 0;
-        while let Some(Answer::Ask { time }) = told.answer {
+        while let Some(Answer::Ask { place, time }) = told.answer {
             if attempt == last && asked == 1 {
                 break;
             }
             asked += 1;
             let answer = vector(&field.at(time, &told.lent));
-            told = script.call(&Call::Supply { answer, lent: n });
+            told = script.call(&Call::Supply { place, answer, lent: n });
         }
         script.call(&Call::FirstStep { largest: f64::INFINITY });
         if attempt == last {
@@ -191,8 +194,8 @@ fn stiffest(script: &mut Script) {
     for (scheme, questions) in QUESTIONS.into_iter().enumerate() {
         script.call(&Call::Open(opening(scheme, 0.0, 1.0)));
         script.call(&begin(1.0, STIFFEST));
-        for _ in 0..questions {
-            script.call(&supply(0.0));
+        for place in 0..questions {
+            script.call(&supply(place, 0.0));
         }
         script.call(&accept(0.0));
         if scheme == ETD2 {
@@ -207,7 +210,7 @@ fn calls_on_a_session() -> Vec<Call> {
     let wrong = vector(&[f64::NAN, 1.0]);
     vec![
         Call::Begin { supplied: true, step: 0.0, jacobian: matrix(&[f64::NAN, 1.0]), lent: 3 },
-        Call::Supply { answer: wrong, lent: 3 },
+        Call::Supply { place: 2, answer: wrong, lent: 3 },
         Call::Accept { derivative: wrong },
         Call::Drop,
         Call::FirstStep { largest: f64::NAN },
@@ -215,10 +218,15 @@ fn calls_on_a_session() -> Vec<Call> {
     ]
 }
 
-/// For each call a session of which all conditions hold, then all but the first, and so on.
+/// For each call a session of which all conditions hold, then all but the first, and so on; for supply that of the place too.
 fn checks_on_the_session(script: &mut Script) {
-    for call in calls_on_a_session() {
-        for sound in 0..6 {
+    for mut call in calls_on_a_session() {
+        for sound in 0..7 {
+            if let Call::Supply { place, .. } = &mut call {
+                *place = if sound < 4 { 2 } else { 0 };
+            } else if sound == 3 {
+                continue;
+            }
             // A phase that is wrong for the call: begin in an attempt, the others at rest or asking.
             let mut session = match call {
                 Call::Supply { .. } => in_attempt(1),
@@ -238,13 +246,13 @@ fn checks_on_the_session(script: &mut Script) {
                     _ => in_attempt(0),
                 };
             }
-            if sound < 4 {
+            if sound < 5 {
                 session.absolute[0] = -1.0;
             }
-            if sound < 5 && session.attempt != Attempt::None {
+            if sound < 6 && session.attempt != Attempt::None {
                 session.step = f64::INFINITY;
             }
-            if sound < 6 {
+            if sound < 7 {
                 session.time = f64::NAN;
             }
             script.call(&Call::Load(Box::new(session)));
@@ -385,7 +393,7 @@ fn checks_on_what_is_handed_in(script: &mut Script) {
     script.call(&Call::Load(Box::new(in_attempt(0))));
     for (values, lent) in [(&[nan, 1.0][..], 1), (&[nan], 0), (&[nan], 1), (&[1.0, -0.0], 1), (&[1e300], 1)] {
         let answer = vector(values);
-        script.call(&Call::Supply { answer, lent });
+        script.call(&Call::Supply { place: 0, answer, lent });
     }
     script.call(&Call::Show);
     script.call(&Call::Load(Box::new(in_attempt(1))));
@@ -486,11 +494,10 @@ fn refusals_by_6(script: &mut Script) {
                 Some(entry) => script.call(&begin(input.step, entry)),
                 None => script.call(&difference(input.step, 1)),
             };
-            let mut asked = 0;
-            while let Some(Answer::Ask { .. }) = told.answer {
-                let answer = input.answers[asked.min(input.answers.len() - 1)];
-                told = script.call(&supply(answer));
-                asked += 1;
+            while let Some(Answer::Ask { place, .. }) = told.answer {
+                let place = usize::from(place);
+                let answer = input.answers[place.min(input.answers.len() - 1)];
+                told = script.call(&supply(place, answer));
             }
             if let Some(Answer::Ready { .. }) = told.answer {
                 script.call(&accept(input.f0));
@@ -525,7 +532,7 @@ fn forged_past_a_refused_question(script: &mut Script) {
         session.step = power_of_two(1023);
         let ready = answers == QUESTIONS[scheme];
         script.call(&Call::Load(Box::new(session)));
-        script.call(&if ready { accept(0.0) } else { supply(0.0) });
+        script.call(&if ready { accept(0.0) } else { supply(answers, 0.0) });
     }
     script.call(&Call::Show);
 }
@@ -547,7 +554,7 @@ fn bytes_that_count_as_others(script: &mut Script) {
         session.jacobian[0] = 0.0;
         let old = OldSession { history_held: true, ..OldSession::of(&session, 1.0) };
         written_as(&Call::Load(Box::new(session)), 4, byte);
-        written_as(&supply(1.0), 0, crate::console::SUPPLY);
+        written_as(&supply(0, 1.0), 0, crate::console::SUPPLY);
         written_as(&Call::Show, 0, crate::console::SHOW);
         for place in [3, 4] {
             written_as(&Call::BringOver(Box::new(old.clone())), place, byte);
@@ -596,7 +603,7 @@ fn tolerances_that_differ(script: &mut Script) {
         script.call(&first_step);
         script.call(&begin_of_three());
         script.call(&first_step);
-        script.call(&Call::Supply { answer: vector(&[0.1, 1.5, -2e3]), lent: 3 });
+        script.call(&Call::Supply { place: 0, answer: vector(&[0.1, 1.5, -2e3]), lent: 3 });
         script.call(&first_step);
         script.call(&Call::Accept { derivative: vector(&[0.2, 1.0, -2.5e3]) });
         script.call(&first_step);
@@ -615,8 +622,8 @@ fn tolerances_that_differ(script: &mut Script) {
     script.call(&Call::Open(whole.clone()));
     script.call(&Call::FirstStep { largest: 1.0 });
     script.call(&Call::Begin { supplied: true, step: 0.5, jacobian: matrix(&[]), lent: PLACES });
-    for answer in [-1.5, -1.0] {
-        script.call(&Call::Supply { answer: [answer; PLACES], lent: PLACES });
+    for (place, answer) in [(0, -1.5), (1, -1.0)] {
+        script.call(&Call::Supply { place, answer: [answer; PLACES], lent: PLACES });
     }
     script.call(&Call::ErrorNorm {
         n: whole.n,
@@ -685,7 +692,7 @@ fn old_sessions(script: &mut Script) {
     script.call(&Call::Open(opening_of_three()));
     script.call(&Call::BringOver(Box::new(asking.clone())));
     script.call(&Call::Show);
-    script.call(&Call::Supply { answer: vector(&[0.1, 1.5, -2e3]), lent: 3 });
+    script.call(&Call::Supply { place: 0, answer: vector(&[0.1, 1.5, -2e3]), lent: 3 });
     script.call(&Call::FirstStep { largest: f64::INFINITY });
     script.call(&Call::Accept { derivative: vector(&[0.2, 1.0, -2.5e3]) });
     script.call(&Call::Show);
@@ -711,7 +718,7 @@ fn old_sessions(script: &mut Script) {
 }
 
 /// n = 1, f0 = 1, step 1, in an attempt with a Jacobian and answers.
-fn forged(scheme: usize, state: f64, jacobian: f64, answers: &[f64]) -> Session {
+pub(crate) fn forged(scheme: usize, state: f64, jacobian: f64, answers: &[f64]) -> Session {
     let mut session = Session::open(&opening(scheme, state, 1.0)).1;
     session.attempt = Attempt::Supplied;
     session.step = 1.0;

@@ -12,6 +12,7 @@ pub mod console;
 pub mod exact;
 pub mod field;
 pub mod fixed_script;
+mod fixed_places;
 mod fixed_steps;
 mod float_list;
 pub mod inputs;

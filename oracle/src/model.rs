@@ -51,7 +51,9 @@ pub struct Session {
 #[derive(Clone, Copy, Debug, PartialEq)]
 pub enum Answer {
     Refused(u8),
+    /// The place is the question's in its attempt, from 0.
     Ask {
+        place: u8,
         time: f64,
     },
     /// The products are the matrix products of the pass: the terms and squarings of its exponentials.
@@ -198,10 +200,20 @@ impl Session {
 
     /// The conditions on the session in document 01's order, the phase being right or not.
     fn refusal(&self, wrong_phase: impl Fn(&Self) -> bool) -> u8 {
+        self.refusal_by_place(wrong_phase, |_| false)
+    }
+
+    /// The same where a question is named, its place being right or not.
+    fn refusal_by_place(
+        &self,
+        wrong_phase: impl Fn(&Self) -> bool,
+        wrong_place: impl Fn(&Self) -> bool,
+    ) -> u8 {
         first_refusal(&[
             (1, &|| self.has_misplaced_numbers()),
             (2, &|| self.is_inconsistent()),
             (7, &|| wrong_phase(self)),
+            (9, &|| wrong_place(self)),
             (4, &|| self.tolerances().are_bad()),
             (5, &|| self.has_attempt() && step_is_bad(self.step)),
             (3, &|| self.has_numbers_not_finite()),
@@ -299,7 +311,7 @@ impl Session {
             Outcome::Refused => (Answer::Refused(6), self),
             Outcome::Ask { time, state } => {
                 lent.copy_from_slice(&state);
-                (Answer::Ask { time }, next)
+                (Answer::Ask { place: next.count, time }, next)
             }
             Outcome::Candidate { pass, exponentials } => {
                 lent.copy_from_slice(&pass.candidate);
@@ -360,9 +372,11 @@ impl Session {
         self.tell(next, lent)
     }
 
-    pub fn supply(self, answer: &Vector, lent: &mut [f64]) -> (Answer, Self) {
+    /// Supplies the answer to the question at a place.
+    pub fn supply(self, place: u8, answer: &Vector, lent: &mut [f64]) -> (Answer, Self) {
         let n = self.n();
-        let on_session = self.refusal(|session| !session.is_asking());
+        let on_session =
+            self.refusal_by_place(|session| !session.is_asking(), |session| place != session.count);
         if on_session != 0 {
             return (Answer::Refused(on_session), self);
         }
@@ -437,8 +451,8 @@ impl Session {
         let mut asked = vec![0.0; self.n()];
         let (mut answer, mut session) = self.begin(false, step, &[0.0; PLACES * PLACES], &mut asked);
         let mut calls = 0;
-        while let Answer::Ask { time } = answer {
-            (answer, session) = session.supply(&table.derivative(time, &asked), &mut asked);
+        while let Answer::Ask { place, time } = answer {
+            (answer, session) = session.supply(place, &table.derivative(time, &asked), &mut asked);
             calls += 1;
         }
         if let Answer::Ready { .. } = answer {

@@ -1,5 +1,5 @@
-//! Random scripts: a host that steps along a field, and now and then errs, damages a frame, forges a session, or
-//! calls out of turn.
+//! Random scripts: a host that steps along a field, and now and then errs, damages a frame, forges a session, calls out
+//! of turn, or answers another question than the one that is open.
 
 use crate::bits::power_of_two;
 use crate::bytes::Reader;
@@ -47,7 +47,7 @@ pub fn damaged(script: &[u8], seed: u64) -> Vec<u8> {
         let place = random.below(bytes.len());
         bytes[place] ^= 1 << random.below(8);
     }
-    // After the op come a scheme, a dimension, a size, an order, or what counts as 0 or 1.
+    // After the op come a scheme, a dimension, a place, a size, an order, or what counts as 0 or 1.
     for _ in 0..random.below(30) {
         let place = random.pick(&heads) + 1 + random.below(5);
         if let Some(byte) = bytes.get_mut(place).filter(|_| !heads.contains(&place)) {
@@ -57,7 +57,7 @@ pub fn damaged(script: &[u8], seed: u64) -> Vec<u8> {
     match random.below(4) {
         0 => bytes.truncate(random.below(bytes.len())),
         1 => bytes.extend([random.pick(&[WHOLE_STEP + 1, WHOLE_STEP + 2, 200, 255]), 4, 4, SHOW]),
-        2 => bytes.extend([&[SUPPLY][..], &[0; PLACES * 8], &[1, 2], &[SHOW]].concat()),
+        2 => bytes.extend([&[SUPPLY, 0][..], &[0; PLACES * 8], &[1, 2], &[SHOW]].concat()),
         _ => {
             let length = random.pick(&[8193, 8208, u16::MAX]);
             bytes.push(WHOLE_STEP);
@@ -126,7 +126,7 @@ impl Host {
         self.refused = 0;
         match told.answer {
             Some(Answer::Refused(number)) => self.refused = number,
-            Some(Answer::Ask { time }) => self.shown = Some((time, told.lent)),
+            Some(Answer::Ask { time, .. }) => self.shown = Some((time, told.lent)),
             Some(Answer::Ready { .. }) => {
                 let time = at + self.session().step;
                 self.shown = Some((time, told.lent));
@@ -161,8 +161,8 @@ impl Host {
         let is_session =
             (1..=PLACES).contains(&usize::from(session.n)) && usize::from(session.scheme) < QUESTIONS.len();
         let attempt = session.attempt;
-        // A host that was refused gives the attempt up, or the run.
-        let gives_up = self.refused != 0 && self.random.chance(2);
+        // A host that was refused gives the attempt up, or the run; after a stray answer it goes on.
+        let gives_up = ![0, 9].contains(&self.refused) && self.random.chance(2);
         if gives_up && self.refused == 6 && attempt != Attempt::None {
             self.call(Call::Drop);
             return;
@@ -183,13 +183,38 @@ impl Host {
             };
             self.call(call);
         } else if answered < questions {
-            let answer = self.derivative();
-            self.call(Call::Supply { answer, lent: self.n() });
+            self.supply();
         } else if self.random.chance(8) {
             self.call(Call::Drop);
         } else {
             let derivative = self.derivative();
             self.call(Call::Accept { derivative });
+        }
+    }
+
+    /// Supplies the answer that is wanted; now and then with another place, or more than once.
+    fn supply(&mut self) {
+        let call = Call::Supply { place: self.place(20), answer: self.derivative(), lent: self.n() };
+        self.call(call.clone());
+        let refused = self.refused;
+        while self.random.chance(20) {
+            self.call(call.clone());
+            self.refused = refused;
+        }
+    }
+
+    /// The open question's place; one in so many times another: an earlier one, a later one, one that no question has, any.
+    fn place(&mut self, strays: usize) -> u8 {
+        let open = self.session().count;
+        if !self.random.chance(strays) {
+            return open;
+        }
+        match self.random.below(6) {
+            0 => open.wrapping_sub(1),
+            1 | 2 => self.random.below(usize::from(open).max(1)) as u8,
+            3 => open.wrapping_add(1),
+            4 => self.random.pick(&[16, 19, 20, 255, 255, 255]),
+            _ => self.random.below(256) as u8,
         }
     }
 
@@ -250,8 +275,8 @@ impl Host {
         let n = n.min(PLACES);
         let past = n == 0 || n < PLACES && self.random.chance(3);
         let place = if past { n + self.random.below(PLACES - n) } else { self.random.below(n) };
-        let bad = [f64::NAN, f64::INFINITY, 0.0, -0.0, -1e-6];
-        absolute[place] = if self.random.chance(2) { self.random.pick(&bad) } else { self.odd() };
+        let bad = if past { &[-0.0, 1e-6][..] } else { &[f64::NAN, f64::INFINITY, 0.0, -0.0, -1e-6] };
+        absolute[place] = if self.random.chance(2) { self.random.pick(bad) } else { self.odd() };
     }
 
     fn damaged_opening(&mut self) -> Opening {
@@ -395,7 +420,7 @@ impl Host {
                 if self.random.chance(2) {
                     self.damage(&mut answer);
                 }
-                Call::Supply { answer, lent: self.lent(n) }
+                Call::Supply { place: self.place(4), answer, lent: self.lent(n) }
             }
             3 => {
                 let mut derivative = self.derivative();
@@ -463,7 +488,7 @@ impl Host {
         };
         self.script.call(&call);
         for _ in 0..=self.random.below(3) {
-            match self.random.below(8) {
+            match self.random.below(10) {
                 0 => self.call(Call::Drop),
                 1 => {
                     let largest = self.largest();
@@ -473,6 +498,11 @@ impl Host {
                 4 => {
                     let call = self.odd_whole_step();
                     self.call(call);
+                }
+                5 | 6 => {
+                    let place = self.place(1);
+                    let answer = self.derivative();
+                    self.call(Call::Supply { place, answer, lent: self.n() });
                 }
                 _ => self.forward(),
             }

@@ -1,9 +1,9 @@
 //! Scripts for the console, made call by call beside the model, so that a host in them can answer what is asked.
 
-use crate::bits::power_of_two;
+use crate::bits::{power_of_two, same};
 use crate::bytes::Reader;
 use crate::console::{Call, Console, Told, put_call, read_call};
-use crate::model::{Answer, Attempt, Opening, PLACES, Session, Vector};
+use crate::model::{ANSWERS, Answer, Attempt, Opening, PLACES, Session, Vector};
 use crate::pass::{ESTIMATING, QUESTIONS};
 use crate::table::{Table, broken_rules};
 use crate::tolerances::{Tolerances, is_bad};
@@ -14,6 +14,8 @@ type Counts = BTreeMap<(&'static str, String), usize>;
 
 pub const TABLES_REFUSED: &str = "tables refused for one rule";
 pub const STEPS_REFUSED: &str = "whole steps refused on the way";
+pub const STRAYS: &str = "supplies with another place";
+pub const BEHIND_9: &str = "what the open question's place would have told";
 pub const PRODUCTS: &str = "products of a ready";
 pub const TERMS: &str = "terms of a filled";
 pub const SQUARINGS: &str = "squarings of a filled";
@@ -22,7 +24,7 @@ pub const SQUARINGS: &str = "squarings of a filled";
 #[derive(Clone, Debug, Default, Eq, PartialEq)]
 pub struct Tally {
     pub outcomes: Counts,
-    /// What was seen of tolerances, of sessions brought over, and of whole steps and tables refused.
+    /// What was seen of tolerances, of sessions brought over, of whole steps and tables refused, and of places of questions.
     pub seen: Counts,
     /// The schemes that came to a candidate, by whether the Jacobian was supplied or differenced.
     pub ready: BTreeMap<(u8, bool), usize>,
@@ -125,6 +127,10 @@ pub struct Script {
     /// Whether the session was brought over, and whether its attempt came with it.
     brought_over: bool,
     attempt_brought_over: bool,
+    /// The answer that was supplied last in the attempt, and its place.
+    taken: Option<(u8, Vector)>,
+    /// Whether an answer to another question was refused in the attempt.
+    strayed: bool,
 }
 
 impl Script {
@@ -146,6 +152,7 @@ impl Script {
         self.note_tolerances(call, &before, told.answer);
         self.note_bringing_over(call, told.answer);
         self.note_whole_step(call, &before, told.answer);
+        self.note_place(call, &before, told.answer);
         match told.answer {
             Some(Answer::Ready { products, .. }) => {
                 self.tally.reach(PRODUCTS, products);
@@ -271,6 +278,48 @@ impl Script {
                     "at a new time not finite"
                 };
                 self.tally.see(STEPS_REFUSED, format!("by {number} {place}"));
+            }
+            _ => {}
+        }
+    }
+
+    /// Supplies with another place than the open question's: which one, their number, and what a 9 came before; and the
+    /// attempts that were accepted nonetheless.
+    fn note_place(&mut self, call: &Call, before: &Session, answer: Option<Answer>) {
+        match (call, answer) {
+            (Call::Supply { place, answer: handed, lent }, Some(answer)) => {
+                if *place != before.count {
+                    self.tally.see(STRAYS, outcome(Some(answer)));
+                }
+                let again = self.taken.is_some_and(|(last, taken)| last == *place && same(&taken, handed));
+                if again && matches!(answer, Answer::Refused(7 | 9)) {
+                    self.tally.see(STRAYS, format!("a duplicate {}", outcome(Some(answer))));
+                }
+                if answer == Answer::Refused(9) {
+                    self.strayed = true;
+                    self.tally.see(
+                        STRAYS,
+                        match *place {
+                            255 => "255",
+                            place if usize::from(place) >= ANSWERS => "past all places",
+                            place if place > before.count => "early",
+                            _ => "late",
+                        },
+                    );
+                    let by_session = before.clone().drop_attempt().0;
+                    let right = before.clone().supply(before.count, handed, &mut vec![0.0; *lent]).0;
+                    let of = if by_session == right { " on the session" } else { "" };
+                    self.tally.see(BEHIND_9, outcome(Some(right)) + of);
+                } else if matches!(answer, Answer::Ask { .. } | Answer::Ready { .. }) {
+                    self.taken = Some((*place, *handed));
+                }
+            }
+            (Call::Accept { .. } | Call::Drop, Some(Answer::Resting))
+            | (Call::Open(_) | Call::Load(_) | Call::BringOver(_), _) => {
+                if self.strayed && matches!(call, Call::Accept { .. }) {
+                    self.tally.see(STRAYS, "accepted after some");
+                }
+                (self.taken, self.strayed) = (None, false);
             }
             _ => {}
         }

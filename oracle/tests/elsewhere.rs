@@ -169,9 +169,9 @@ fn small_step(scheme: usize, step: f64) -> (Option<f64>, Answer) {
     jacobian[0] = -0.8;
     let mut lent = [0.0];
     let (mut answer, mut session) = session.begin(true, step, &jacobian, &mut lent);
-    while let Answer::Ask { .. } = answer {
+    while let Answer::Ask { place, .. } = answer {
         let supplied = first(rhs(lent[0]));
-        (answer, session) = session.supply(&supplied, &mut lent);
+        (answer, session) = session.supply(place, &supplied, &mut lent);
     }
     (rust.ok().map(|pass| pass.candidate[0]), answer)
 }

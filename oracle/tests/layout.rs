@@ -111,7 +111,7 @@ fn an_old_image_has_one_tolerance() {
 fn a_reply_has_the_outcomes_number() {
     for (name, answer) in [
         ("REFUSED", Answer::Refused(7)),
-        ("ASK", Answer::Ask { time: 1.0 }),
+        ("ASK", Answer::Ask { place: 2, time: 1.0 }),
         ("READY", Answer::Ready { norm: 1.0, right_hand_sides: 2, jacobians: 1, products: 3 }),
         ("RESTING", Answer::Resting),
         ("FIRST_STEP", Answer::FirstStep(1.0)),
@@ -135,7 +135,8 @@ fn a_reply_has_three_counts() {
     let ready = Answer::Ready { norm: 1.0, right_hand_sides: 20, jacobians: 1, products: 1598 };
     assert_eq!(counts(ready), [20, 1, 1598]);
     assert_eq!(counts(Answer::Filled { terms: 15, squarings: 32 }), [15, 32, 0]);
-    let others = [Answer::Refused(6), Answer::Ask { time: 1.0 }, Answer::Resting];
+    assert_eq!(counts(Answer::Ask { place: 19, time: 1.0 }), [19, 0, 0]);
+    let others = [Answer::Refused(6), Answer::Resting];
     for answer in others.into_iter().chain([Answer::FirstStep(1.0), Answer::Norm(1.0)]) {
         assert_eq!(counts(answer), [0; 3], "{answer:?}");
     }

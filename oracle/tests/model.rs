@@ -11,7 +11,9 @@ use oracle::pass::ETD2;
 use oracle::random::Random;
 use oracle::random_script::{damaged, random_script};
 use oracle::refused::{self, Kind};
-use oracle::script::{PRODUCTS, SQUARINGS, STEPS_REFUSED, Script, TABLES_REFUSED, TERMS, Tally};
+use oracle::script::{
+    BEHIND_9, PRODUCTS, SQUARINGS, STEPS_REFUSED, STRAYS, Script, TABLES_REFUSED, TERMS, Tally,
+};
 use oracle::table::{RULES, Record, Table, bytes_of};
 use oracle::tolerances::alike;
 use oracle::{OdeProblem, SolveOptions, SolverStats, compared, published, watch};
@@ -85,9 +87,9 @@ fn beside_the_kernel(scheme: usize, n: usize, supplied: bool, random: &mut Rando
         }
         let mut lent = vec![BEFORE; n];
         let mut told = session.begin(supplied, step, &handed, &mut lent);
-        while let (Answer::Ask { time }, session) = told {
+        while let (Answer::Ask { place, time }, session) = told {
             let answer = vector(&field.at(time, &lent));
-            told = session.supply(&answer, &mut lent);
+            told = session.supply(place, &answer, &mut lent);
         }
         let ready = Answer::Ready {
             norm,
@@ -130,7 +132,8 @@ fn a_refused_call_changes_nothing() {
             let before = image(&console.session);
             let told = console.call(&call, &mut Vec::new());
             if let Some(Answer::Refused(number)) = told.answer {
-                assert!((1..=8).contains(&number));
+                assert!((1..=9).contains(&number));
+                assert!(number != 9 || matches!(call, Call::Supply { .. }));
                 assert!(told.lent.iter().all(|place| *place == BEFORE));
                 let after = image(&console.session);
                 let blank = image(&Session::blank());
@@ -155,7 +158,7 @@ fn the_fixed_script_covers_every_op_and_refusal() {
     for (op, numbers) in [
         ("open", &[1, 2, 3, 4][..]),
         ("begin", &[1, 2, 3, 4, 5, 6, 7]),
-        ("supply", &[1, 2, 3, 4, 5, 6, 7]),
+        ("supply", &[1, 2, 3, 4, 5, 6, 7, 9]),
         ("accept", &[1, 2, 3, 4, 5, 6, 7]),
         ("drop", &[1, 2, 3, 4, 5]),
         ("first step", &[1, 2, 3, 4, 5]),
@@ -190,6 +193,7 @@ fn the_fixed_script_covers_every_op_and_refusal() {
     every_kind_of_tolerance_was_seen(&script.tally, 1);
     every_kind_of_old_session_was_seen(&script.tally, &[1, 2, 3, 4, 5], 1);
     every_kind_of_whole_step_was_seen(&script.tally, 1);
+    every_kind_of_stray_was_seen(&script.tally, 1);
     let largest = |count: &str| script.tally.largest[count];
     assert_eq!((largest(PRODUCTS), largest(TERMS), largest(SQUARINGS)), (1583, 15, 32));
     for scheme in 0..16 {
@@ -204,7 +208,7 @@ fn the_fixed_script_covers_every_op_and_refusal() {
 #[test]
 fn the_random_scripts_cover_what_a_host_can_do() {
     let mut tally = Tally::default();
-    for seed in 0..60 {
+    for seed in 0..120 {
         tally.add(&random_script(seed, 1000).tally);
     }
     for scheme in 0..16 {
@@ -224,7 +228,7 @@ fn the_random_scripts_cover_what_a_host_can_do() {
     for (op, numbers) in [
         ("open", &[1, 2, 3, 4][..]),
         ("begin", &[1, 2, 3, 4, 5, 6, 7]),
-        ("supply", &[1, 2, 3, 4, 5, 6, 7]),
+        ("supply", &[1, 2, 3, 4, 5, 6, 7, 9]),
         ("accept", &[1, 2, 3, 4, 5, 6, 7]),
         ("drop", &[1, 2, 3, 4, 5]),
         ("first step", &[1, 2, 3, 4, 5]),
@@ -253,6 +257,8 @@ fn the_random_scripts_cover_what_a_host_can_do() {
     every_kind_of_tolerance_was_seen(&tally, 5);
     every_kind_of_old_session_was_seen(&tally, &[1, 2, 3, 4, 5, 6, 7], 5);
     every_kind_of_whole_step_was_seen(&tally, 5);
+    every_kind_of_stray_was_seen(&tally, 5);
+    seen_often(&tally, STRAYS, "accepted after some", 200);
     assert!((0..16).all(|scheme| tally.stepped[&scheme] > 50));
     for (holder, figure) in [
         ("tolerances of open", "opened"),
@@ -321,6 +327,25 @@ fn every_kind_of_whole_step_was_seen(tally: &Tally, least: usize) {
         "by 6 at a new time not finite",
     ] {
         seen_often(tally, STEPS_REFUSED, place, least);
+    }
+}
+
+/// Answers to another question, before and behind 9.
+fn every_kind_of_stray_was_seen(tally: &Tally, least: usize) {
+    for what in ["early", "late", "past all places", "255", "accepted after some"] {
+        seen_often(tally, STRAYS, what, least);
+    }
+    for number in [1, 2, 7, 9] {
+        seen_often(tally, STRAYS, &format!("refused by {number}"), least);
+    }
+    for number in [7, 9] {
+        seen_often(tally, STRAYS, &format!("a duplicate refused by {number}"), least);
+    }
+    for told in ["1", "3", "3 on the session", "4 on the session", "5 on the session", "6"] {
+        seen_often(tally, BEHIND_9, &format!("refused by {told}"), least);
+    }
+    for told in ["ask", "ready"] {
+        seen_often(tally, BEHIND_9, told, least);
     }
 }
 
@@ -426,7 +451,7 @@ fn what_is_handed_in_is_checked_in_the_order_of_document_01() {
     for (number, (values, lent)) in
         [(1, (&[nan, 1.0][..], 1)), (1, (&[nan], 0)), (3, (&[nan], 1)), (6, (&[1e300], 1))]
     {
-        let (answer, _) = asking.clone().supply(&vector(values), &mut vec![BEFORE; lent]);
+        let (answer, _) = asking.clone().supply(0, &vector(values), &mut vec![BEFORE; lent]);
         assert_eq!(answer, Answer::Refused(number));
     }
     for (number, largest) in [(5, nan), (5, f64::EPSILON.next_down()), (5, f64::NEG_INFINITY)] {
@@ -447,9 +472,9 @@ fn each_kind_is_refused_by_6_in_its_own_call() {
             let entry = input.jacobian.map_or(vec![], |entry| vec![entry]);
             let mut told = begin(&session, input.jacobian.is_some(), input.step, &entry, 1);
             let mut calls = 1;
-            while let (Answer::Ask { .. }, session) = told {
+            while let (Answer::Ask { place, .. }, session) = told {
                 let answer = input.answers[(calls - 1).min(input.answers.len() - 1)];
-                told = session.supply(&vector(&[answer]), &mut [BEFORE]);
+                told = session.supply(place, &vector(&[answer]), &mut [BEFORE]);
                 calls += 1;
             }
             if let (Answer::Ready { .. }, session) = told {
@@ -494,9 +519,9 @@ fn a_differenced_column_is_tested_when_its_own_answer_is_in() {
         history: vector(&[]),
     });
     let (_, asking) = begin(&session, false, 1.0, &[], 2);
-    let supply = |entry: f64| asking.clone().supply(&vector(&[0.0, entry]), &mut [BEFORE; 2]).0;
+    let supply = |entry: f64| asking.clone().supply(0, &vector(&[0.0, entry]), &mut [BEFORE; 2]).0;
     assert_eq!(supply(oracle::bits::power_of_two(998)), Answer::Refused(6));
-    assert_eq!(supply(oracle::bits::power_of_two(997)), Answer::Ask { time: 0.0 });
+    assert_eq!(supply(oracle::bits::power_of_two(997)), Answer::Ask { place: 1, time: 0.0 });
 }
 
 #[test]
@@ -551,7 +576,7 @@ fn every_node_of_a_forged_session_is_tested_again() {
     session.attempt = Attempt::Supplied;
     session.step = huge;
     session.count = 3;
-    let supply = |session: &Session| session.clone().supply(&vector(&[0.0]), &mut [BEFORE]).0;
+    let supply = |session: &Session| session.clone().supply(3, &vector(&[0.0]), &mut [BEFORE]).0;
     assert_eq!(supply(&session), Answer::Refused(6));
     session.time = 0.0;
     // Its 5 phi_1, 18 phi_2 and 11 phi_3 of zeros have no, one and two ones above the diagonal: 1, 2 and 3 terms, and a
@@ -709,7 +734,7 @@ fn a_script_ends_where_the_page_says() {
     let reply = console::run(&good);
     assert_eq!(reply.len(), 22);
     let too_many = [&[6, 1, 1, 2, 1, 0][..], &[0; 513 * 8]].concat();
-    let too_long = [&[2][..], &[0; PLACES * 8], &[1, 2]].concat();
+    let too_long = [&[2, 0][..], &[0; PLACES * 8], &[1, 2]].concat();
     let table = |length: u16, bytes: usize| {
         [&[WHOLE_STEP, 0, 0, 0, 0, 0, 0, 0xe0, 0x3f][..], &length.to_le_bytes(), &vec![0; bytes]].concat()
     };
@@ -885,8 +910,8 @@ fn a_whole_step_is_taken_whatever_its_norm() {
     let table = bytes_of(&[Record::product(0, 1.0, 0, 0)]);
     let mut lent = [BEFORE];
     let mut told = session.clone().begin(false, 0.5, &[0.0; PLACES * PLACES], &mut lent);
-    while let (Answer::Ask { .. }, asking) = told {
-        told = asking.supply(&vector(&[lent[0] * lent[0]]), &mut lent);
+    while let (Answer::Ask { place, .. }, asking) = told {
+        told = asking.supply(place, &vector(&[lent[0] * lent[0]]), &mut lent);
     }
     assert!(matches!(told.0, Answer::Ready { norm, .. } if norm > 1e100), "{:?}", told.0);
     let (answer, next) = session.whole_step(0.5, &table);

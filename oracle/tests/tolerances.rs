@@ -162,7 +162,7 @@ fn an_attempts_norm_goes_by_each_components_tolerance() {
     let norm = |absolute: [f64; 2], answer: [f64; 2]| {
         let mut lent = [BEFORE; 2];
         let (_, asking) = session_of_two(absolute).begin(true, 0.5, &[0.0; PLACES * PLACES], &mut lent);
-        match asking.supply(&vector(&answer), &mut lent).0 {
+        match asking.supply(0, &vector(&answer), &mut lent).0 {
             Answer::Ready { norm, .. } => norm,
             answer => panic!("{answer:?}"),
         }
@@ -286,11 +286,12 @@ fn old_number(old: &OldSession, call: Taking) -> u8 {
 /// The number by which a call refuses the session, with nothing wrong in what it hands in; 0 for none, and for a 6.
 fn number(session: &Session, call: Taking) -> u8 {
     let session = session.clone();
+    let place = session.count;
     let mut lent = vec![BEFORE; usize::from(session.n)];
     let zero = [0.0; PLACES];
     let (answer, _) = match call {
         Taking::Begin => session.begin(false, 1.0, &[0.0; PLACES * PLACES], &mut lent),
-        Taking::Supply => session.supply(&zero, &mut lent),
+        Taking::Supply => session.supply(place, &zero, &mut lent),
         Taking::Accept => session.accept(&zero),
         Taking::Drop => session.drop_attempt(),
         Taking::FirstStep => session.first_step(1.0),
