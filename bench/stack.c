@@ -39,7 +39,7 @@ static void make(void) {
     case OPEN: vunchrem_open(scheme, n, 0, 0.0, tolerance, absolute, V, u, V, du, V, none, V, SESSION, REPLY); break;
     case FIRST_STEP: vunchrem_first_step(SESSION, INFINITY, REPLY); break;
     case BEGIN: vunchrem_begin(SESSION, step, wish, jacobian, VUNCHREM_MATRIX, out, n, REPLY); break;
-    case SUPPLY: vunchrem_supply(SESSION, du, V, out, n, REPLY); break;
+    case SUPPLY: vunchrem_supply(SESSION, r.words[VUNCHREM_ASK_PLACE_AT], du, V, out, n, REPLY); break;
     case ACCEPT: vunchrem_accept(SESSION, du, V, REPLY); break;
     case DROP: vunchrem_drop(SESSION, REPLY); break;
     case OPEN_BY_TABLE: vunchrem_open_by_table(scheme, n, 0.0, tolerance, absolute, V, u, V, table, table_len, SESSION, REPLY); break;

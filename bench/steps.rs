@@ -69,10 +69,10 @@ fn case(n: usize, stiffness: f64) -> Case {
 fn answer(session: &mut Session, mut progress: Progress, stiffness: f64) -> Option<Vec<f64>> {
     loop {
         match progress {
-            Progress::Ask { state, .. } => {
-                let mut du = vec![0.0; state.len()];
-                chain(stiffness, &state, &mut du);
-                progress = session.supply(&du).ok()?;
+            Progress::Ask(question) => {
+                let mut du = vec![0.0; question.state().len()];
+                chain(stiffness, question.state(), &mut du);
+                progress = session.answer(question, &du).ok()?;
             }
             Progress::Ready { candidate, .. } => return Some(candidate),
         }

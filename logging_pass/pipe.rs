@@ -40,7 +40,7 @@ struct Reply {
     outcome: u8,
     refusal: u8,
     figure: f64,
-    /// Of Ready the right-hand sides, the Jacobians and the products.
+    /// Of Ask the place of the question and zeros, of Ready the right-hand sides, the Jacobians and the products.
     counts: [u32; 3],
 }
 
@@ -108,8 +108,9 @@ impl Session {
         let mut reply = self.call(&call, &mut shown);
         while reply.outcome == ASK {
             derivative(reply.figure, &shown, &mut answer);
+            let [place, ..] = reply.counts;
             call.clear();
-            call.push(2);
+            call.extend([2, place as u8]);
             put(&mut call, &answer, PLACES);
             call.extend(length);
             reply = self.call(&call, &mut shown);

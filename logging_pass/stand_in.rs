@@ -72,9 +72,9 @@ impl Session {
         let mut shown = vec![0.0; n];
         let mut answer = vec![0.0; n];
         let (mut told, mut session) = self.0.clone().begin(false, step, &[0.0; PLACES * PLACES], &mut shown);
-        while let Answer::Ask { time } = told {
+        while let Answer::Ask { place, time } = told {
             derivative(time, &shown, &mut answer);
-            (told, session) = session.supply(&vector(&answer), &mut shown);
+            (told, session) = session.supply(place, &vector(&answer), &mut shown);
         }
         let mut stepped = Stepped { products: 0 };
         if let Answer::Ready { products, .. } = told {

@@ -34,7 +34,8 @@ uint64_t counts_of(const unsigned char *bytes, size_t length, size_t n, double s
         return VUNCHREM_REFUSED;
     vunchrem_begin(s.numbers, VUNCHREM_NUMBERS, s.figures, VUNCHREM_FIGURES, step, 1, jacobian, VUNCHREM_MATRIX, out, n, r.words, VUNCHREM_WORDS, r.told, 1);
     while (r.words[VUNCHREM_OUTCOME_AT] == VUNCHREM_ASK)
-        vunchrem_supply(s.numbers, VUNCHREM_NUMBERS, s.figures, VUNCHREM_FIGURES, zeros, VUNCHREM_VECTOR, out, n, r.words, VUNCHREM_WORDS, r.told, 1);
+        vunchrem_supply(s.numbers, VUNCHREM_NUMBERS, s.figures, VUNCHREM_FIGURES, r.words[VUNCHREM_ASK_PLACE_AT], zeros, VUNCHREM_VECTOR, out, n,
+                        r.words, VUNCHREM_WORDS, r.told, 1);
     counts[0] = r.words[VUNCHREM_READY_RHS_AT];
     counts[1] = r.words[VUNCHREM_READY_JACOBIANS_AT];
     counts[2] = r.words[VUNCHREM_READY_PRODUCTS_AT];

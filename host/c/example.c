@@ -1,5 +1,6 @@
 /* A stiff pair, u0' = -1000 (u0 - cos t) and u1' = u0 - u1, each with a tolerance of its own, stepped by Exprb32 from t = 0 to 0.1; then a NaN
- * answer, a huge word and a wrong length; then the session saved and restored; then what is counted; then whole steps by a table. */
+ * answer, a huge word and a wrong length; then answers that come twice; then the session saved and restored; then what is counted; then whole steps
+ * by a table. */
 #include <math.h>
 #include <stdio.h>
 #include <stdlib.h>
@@ -46,7 +47,7 @@ static int step_by(void (*rhs)(double, const double *, double *), double h) {
         return (int)r.words[VUNCHREM_REFUSAL_AT];
     while (r.words[VUNCHREM_OUTCOME_AT] == VUNCHREM_ASK) {
         rhs(r.told[0], u, du);
-        vunchrem_supply(SESSION, du, 16, u, N, REPLY);
+        vunchrem_supply(SESSION, r.words[VUNCHREM_ASK_PLACE_AT], du, 16, u, N, REPLY);
     }
     if (r.words[VUNCHREM_OUTCOME_AT] == VUNCHREM_READY) {
         products = r.words[VUNCHREM_READY_PRODUCTS_AT];
@@ -70,6 +71,46 @@ static int same(const vunchrem_session *a) {
     return memcmp(a, &s, sizeof s) == 0;
 }
 
+/* Whether the last call was refused by this number and left the session and the output, two places that held -1.5. */
+static int refused(uint64_t number, const vunchrem_session *kept, const double *out) {
+    return r.words[VUNCHREM_OUTCOME_AT] == VUNCHREM_REFUSED && r.words[VUNCHREM_REFUSAL_AT] == number && counts(0, 0, 0) && same(kept) &&
+           out[0] == -1.5 && out[1] == -1.5;
+}
+
+/* Every question of a step is answered twice, as by two detectors: the second answer comes when the next question is open, or the candidate there. */
+static void twice(void) {
+    static const double nan_answer[16] = {NAN};
+    double u[N], du[16], out[N] = {-1.5, -1.5};
+    vunchrem_session kept = s, once;
+    uint64_t place, asked = 0;
+    check("a step, each question answered once", step(0.01) == 0);
+    once = s;
+    s = kept;
+    vunchrem_begin(SESSION, 0.01, 0, none, VUNCHREM_MATRIX, u, N, REPLY);
+    while (r.words[VUNCHREM_OUTCOME_AT] == VUNCHREM_ASK) {
+        vunchrem_reply next;
+        place = r.words[VUNCHREM_ASK_PLACE_AT];
+        check("questions have the places 0, 1, 2 and so on", place == asked++ && counts(place, 0, 0));
+        f(r.told[0], u, du);
+        kept = s;
+        vunchrem_supply(SESSION, place + 1, du, 16, out, N, REPLY);
+        check("an answer to the next question is refused by 9", refused(VUNCHREM_QUESTION, &kept, out));
+        vunchrem_supply(SESSION, (UINT64_C(1) << 32) + place, nan_answer, 16, out, N, REPLY);
+        check("and one to a question that there never is", refused(VUNCHREM_QUESTION, &kept, out));
+        vunchrem_supply(SESSION, place, du, 16, u, N, REPLY);
+        next = r;
+        kept = s;
+        vunchrem_supply(SESSION, place, du, 16, out, N, REPLY);
+        check("the same answer again is refused, the last by 7",
+              refused(next.words[VUNCHREM_OUTCOME_AT] == VUNCHREM_ASK ? VUNCHREM_QUESTION : VUNCHREM_PHASE, &kept, out));
+        r = next;
+    }
+    check("three questions", asked == 3 && r.words[VUNCHREM_READY_RHS_AT] == asked);
+    f(s.figures[VUNCHREM_TIME_AT] + 0.01, u, du);
+    vunchrem_accept(SESSION, du, 16, REPLY);
+    check("the step ends as with each answer once, bit for bit", same(&once));
+}
+
 static void saving(void) {
     static const size_t wrong[] = {0, 1, VUNCHREM_OLD_BYTES - 1, VUNCHREM_OLD_BYTES + 1, VUNCHREM_BYTES - 1, VUNCHREM_BYTES + 1};
     const size_t tolerances = VUNCHREM_NUMBERS + 8 * VUNCHREM_ABSOLUTE_AT, behind = tolerances + 8;
@@ -80,7 +121,7 @@ static void saving(void) {
     /* in mid-attempt, with one answer supplied */
     vunchrem_begin(SESSION, 0.01, 0, none, VUNCHREM_MATRIX, u, N, REPLY);
     f(r.told[0], u, du);
-    vunchrem_supply(SESSION, du, 16, u, N, REPLY);
+    vunchrem_supply(SESSION, r.words[VUNCHREM_ASK_PLACE_AT], du, 16, u, N, REPLY);
     kept = s;
     check("a session is saved", s.numbers[VUNCHREM_COUNT_AT] == 1 && vunchrem_save(&s, saved, VUNCHREM_BYTES) == VUNCHREM_BYTES_DONE);
     vunchrem_drop(SESSION, REPLY);
@@ -144,7 +185,7 @@ static void counting(void) {
     vunchrem_drop(SESSION, REPLY);
     check("drop has no counts", r.words[VUNCHREM_OUTCOME_AT] == VUNCHREM_RESTING && counts(0, 0, 0));
     vunchrem_begin(SESSION, 0.5, 0, none, VUNCHREM_MATRIX, e, 1, REPLY);
-    check("a question has none", r.words[VUNCHREM_OUTCOME_AT] == VUNCHREM_ASK && counts(0, 0, 0));
+    check("a question has its place, the first one 0", r.words[VUNCHREM_OUTCOME_AT] == VUNCHREM_ASK && counts(0, 0, 0));
     memset(r.words, 0xff, sizeof r.words);
     vunchrem_begin(SESSION, 0.5, 0, none, VUNCHREM_MATRIX, e, 1, REPLY);
     check("a refusal has none", r.words[VUNCHREM_OUTCOME_AT] == VUNCHREM_REFUSED && counts(0, 0, 0));
@@ -216,6 +257,7 @@ static void by_table(void) {
 int main(void) {
     double u[16] = {0.0}, du[16], out[N] = {-1.5, -1.5}, bad[16] = {0.0};
     vunchrem_session kept;
+    uint64_t place;
     int k = 0;
 
     f(0.0, u, du);
@@ -232,13 +274,13 @@ int main(void) {
     check("step 0 is refused by 5", step(0.0) == VUNCHREM_STEP && same(&kept));
 
     vunchrem_begin(SESSION, 0.01, 0, none, VUNCHREM_MATRIX, u, N, REPLY);
+    place = r.words[VUNCHREM_ASK_PLACE_AT];
     kept = s;
     bad[0] = NAN;
-    vunchrem_supply(SESSION, bad, 16, out, N, REPLY);
-    check("a NaN answer is refused by 3", r.words[VUNCHREM_OUTCOME_AT] == VUNCHREM_REFUSED && r.words[VUNCHREM_REFUSAL_AT] == VUNCHREM_NOT_FINITE);
-    check("and leaves session and output", same(&kept) && out[0] == -1.5 && out[1] == -1.5);
+    vunchrem_supply(SESSION, place, bad, 16, out, N, REPLY);
+    check("a NaN answer is refused by 3, and leaves session and output", refused(VUNCHREM_NOT_FINITE, &kept, out));
     bad[0] = 1e308;
-    vunchrem_supply(SESSION, bad, 16, out, N, REPLY);
+    vunchrem_supply(SESSION, place, bad, 16, out, N, REPLY);
     check("a huge word is refused by 6", r.words[VUNCHREM_REFUSAL_AT] == VUNCHREM_ARITHMETIC && same(&kept));
     vunchrem_drop(SESSION, REPLY);
 
@@ -246,6 +288,7 @@ int main(void) {
     check("a wrong length gives 1", vunchrem_drop(s.numbers, 4, s.figures, VUNCHREM_FIGURES, REPLY) == 1);
     check("and touches nothing", same(&kept));
 
+    twice();
     saving();
 
     check("a scheme that no byte holds is refused by 2", (s.numbers[VUNCHREM_SCHEME_AT] = 256 + 14, vunchrem_drop(SESSION, REPLY) == 0) &&

@@ -39,7 +39,7 @@ fn a_session_has_the_same_bytes() {
             .unwrap();
         assert!(by_c(&s.save()) == (0, s.save()), "{scheme:?}");
         s.begin(0.1, None).unwrap();
-        s.supply(&[0.5, 0.25]).unwrap();
+        s.supply(0, &[0.5, 0.25]).unwrap();
         assert!(by_c(&s.save()) == (0, s.save()), "{scheme:?}");
     }
 }
@@ -126,7 +126,7 @@ fn a_step_has_the_same_counts() {
         let mut progress = s.begin(0.125, Some(&jacobian[..4])).unwrap();
         let counts = loop {
             match progress {
-                Progress::Ask { .. } => progress = s.supply(&[0.0; 2]).unwrap(),
+                Progress::Ask(question) => progress = s.answer(question, &[0.0; 2]).unwrap(),
                 Progress::Ready {
                     right_hand_sides,
                     jacobians,

@@ -38,7 +38,8 @@ enum vunchrem_refusal {
     VUNCHREM_STEP = 5,       /* the step is zero or not finite, or the largest step is NaN or below 2^-52 */
     VUNCHREM_ARITHMETIC = 6, /* the step's arithmetic is too large to be trusted */
     VUNCHREM_PHASE = 7,      /* the session is in another phase */
-    VUNCHREM_TABLE = 8       /* a table has a wrong length, or a record that breaks a rule, see VUNCHREM_RECORD */
+    VUNCHREM_TABLE = 8,      /* a table has a wrong length, or a record that breaks a rule, see VUNCHREM_RECORD */
+    VUNCHREM_QUESTION = 9    /* an answer to another question than the open one, see vunchrem_supply */
 };
 
 /* Bytes of a table's record, and the most records of a table, which has no header and may be empty. Each record is one term of the right-hand side,
@@ -98,9 +99,11 @@ enum vunchrem_kind {
 #define VUNCHREM_COUNTS 3
 #define VUNCHREM_WORDS (VUNCHREM_COUNTS_AT + VUNCHREM_COUNTS)
 
-/* Which of the counts is which. Of Ready: the right-hand sides that the attempt asked for; the Jacobians, 1; the matrix products, which are the terms
- * and squarings of every exponential that the published Rust makes in the pass, repeats counted, at most 1598. Of Filled: the terms of the series, 1 to
- * 15, and the squarings, 0 to 32, one more for each doubling of the matrix; the third is 0. With every other outcome all three are 0. */
+/* Which of the counts is which. Of Ask: the question's place in the attempt, from 0, which vunchrem_supply wants back; the others are 0. Of Ready: the
+ * right-hand sides that the attempt asked for; the Jacobians, 1; the matrix products, which are the terms and squarings of every exponential that the
+ * published Rust makes in the pass, repeats counted, at most 1598. Of Filled: the terms of the series, 1 to 15, and the squarings, 0 to 32, one more for
+ * each doubling of the matrix; the third is 0. With every other outcome all three are 0. */
+#define VUNCHREM_ASK_PLACE_AT VUNCHREM_COUNTS_AT
 #define VUNCHREM_READY_RHS_AT VUNCHREM_COUNTS_AT
 #define VUNCHREM_READY_JACOBIANS_AT (VUNCHREM_COUNTS_AT + 1)
 #define VUNCHREM_READY_PRODUCTS_AT (VUNCHREM_COUNTS_AT + 2)
@@ -115,8 +118,8 @@ typedef struct {
     double figures[VUNCHREM_FIGURES];
 } vunchrem_session;
 
-/* What a call tells: outcome, refusal and three counts (Ready's or Filled's, else 0); and Ask's time, Ready's error norm, the first step or the
- * norm, else +0.0. */
+/* What a call tells: outcome, refusal and three counts (Ask's, Ready's or Filled's, else 0); and Ask's time, Ready's error norm, the first step or
+ * the norm, else +0.0. */
 typedef struct {
     uint64_t words[VUNCHREM_WORDS];
     double told[1];
@@ -135,8 +138,11 @@ uint32_t vunchrem_begin(uint64_t *numbers, size_t numbers_len, double *figures, 
                         const double *jacobian, size_t jacobian_len, double *out, size_t out_len,
                         uint64_t *words, size_t words_len, double *told, size_t told_len);
 
-/* Supplies the derivative that was asked for, 16 places. The next question, or the candidate, fills out, which has n places. */
-uint32_t vunchrem_supply(uint64_t *numbers, size_t numbers_len, double *figures, size_t figures_len,
+/* Supplies the derivative that a question asked for, 16 places, with the place that came with that question. The next question, or the candidate,
+ * fills out, which has n places. Where another question is open the answer is refused by 9, and where none is open any more by 7: a duplicate or
+ * late one changes nothing. Places count from 0 again in each attempt of each session: an answer that is left over from an earlier attempt, accepted
+ * or dropped, or from another session is not recognised by its place, and is taken where the open question has the same one. */
+uint32_t vunchrem_supply(uint64_t *numbers, size_t numbers_len, double *figures, size_t figures_len, uint64_t place,
                          const double *answer, size_t answer_len, double *out, size_t out_len,
                          uint64_t *words, size_t words_len, double *told, size_t told_len);
 

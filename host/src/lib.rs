@@ -2,8 +2,8 @@
 //!
 //! A [`Session`] holds a run: scheme, time, state, derivative and tolerances. One step is [`Session::step`], which takes the
 //! right-hand side as a closure `f(t, u, du)`. Where the right-hand side is answered elsewhere (another task, another machine), the same
-//! step goes call by call: [`Session::begin`], [`Session::supply`] for each question, then [`Session::accept`] or
-//! [`Session::drop_attempt`].
+//! step goes call by call: [`Session::begin`], [`Session::answer`] for each [`Question`], then [`Session::accept`] or
+//! [`Session::drop_attempt`]. An answer to another question than the open one is refused.
 //!
 //! Where the right-hand side is a sum of terms such as c·u_j·u_k, a [`Table`] of them is enough, and the core steps without asking:
 //! [`Session::open_by_table`], [`Session::whole_step`].
@@ -37,6 +37,7 @@ use std::fmt;
 
 mod by_table;
 mod layout;
+mod question;
 mod raw;
 mod saving;
 mod scheme;
@@ -44,6 +45,7 @@ mod table;
 #[cfg(test)]
 mod tests;
 
+pub use question::{Question, Unanswered};
 pub use saving::RestoreError;
 pub use scheme::Scheme;
 pub use table::Table;
@@ -70,10 +72,12 @@ pub enum Refusal {
     Phase,
     /// 8: a table whose length is no multiple of 16 or that holds more than 256 records, or a record that breaks a rule, see [`Table`].
     Table,
+    /// 9: an answer to another question than the open one, see [`Question`].
+    Question,
 }
 
 impl Refusal {
-    /// The number of the refusal, 1 to 8.
+    /// The number of the refusal, 1 to 9.
     pub const fn number(self) -> u8 {
         match self {
             Refusal::Size => 1,
@@ -84,6 +88,7 @@ impl Refusal {
             Refusal::Arithmetic => 6,
             Refusal::Phase => 7,
             Refusal::Table => 8,
+            Refusal::Question => 9,
         }
     }
 
@@ -97,7 +102,8 @@ impl Refusal {
             6 => Refusal::Arithmetic,
             7 => Refusal::Phase,
             8 => Refusal::Table,
-            _ => unreachable!("the core gives the numbers 1 to 8"),
+            9 => Refusal::Question,
+            _ => unreachable!("the core gives the numbers 1 to 9"),
         }
     }
 }
@@ -113,6 +119,7 @@ impl fmt::Display for Refusal {
             Refusal::Arithmetic => "the step's arithmetic is too large to be trusted",
             Refusal::Phase => "the session is in another phase",
             Refusal::Table => "the table has a wrong length, or a record that breaks a rule",
+            Refusal::Question => "the answer is to another question than the open one",
         };
         write!(f, "refused by {}: {words}", self.number())
     }
@@ -123,13 +130,8 @@ impl Error for Refusal {}
 /// How far an attempt has come.
 #[derive(Clone, Debug, PartialEq)]
 pub enum Progress {
-    /// The derivative at this time and state is asked for: hand it to [`Session::supply`].
-    Ask {
-        /// The time at which the right-hand side is asked.
-        time: f64,
-        /// The state at which it is asked, n entries.
-        state: Vec<f64>,
-    },
+    /// A derivative is asked for: hand the question back with it to [`Session::answer`].
+    Ask(Question),
     /// The candidate is there: hand the derivative at it, at time + step, to [`Session::accept`], or drop the attempt.
     Ready {
         /// The scaled error norm; 0 under schemes without an error estimate. It may be infinite, and is never NaN.
@@ -265,9 +267,14 @@ impl Told {
         self.words[layout::OUTCOME_AT] == outcome as u64
     }
 
-    // Of Ready the right-hand sides, the Jacobians and the products; of Filled the terms, the squarings and 0; otherwise zeros.
+    // Of Ask the place, 0 and 0; of Ready the right-hand sides, the Jacobians and the products; of Filled the terms, the squarings and 0; otherwise
+    // zeros.
     fn counts(&self) -> [u32; layout::COUNTS] {
         std::array::from_fn(|k| self.words[layout::COUNTS_AT + k] as u32)
+    }
+
+    fn place(&self) -> u64 {
+        self.words[layout::COUNTS_AT]
     }
 
     fn reach(&self) -> Reach {
@@ -444,7 +451,7 @@ impl Session {
         t.sorted(code)
     }
 
-    fn call_supply(&mut self, derivative: &[f64], out: &mut [f64; MOST]) -> Result<Told, Refusal> {
+    fn call_supply(&mut self, place: u64, derivative: &[f64], out: &mut [f64; MOST]) -> Result<Told, Refusal> {
         let fits = derivative.len() == self.n();
         let answer = padded(if fits { derivative } else { &[] }).expect("n is at most 16");
         let lent = if fits { self.n() } else { 0 };
@@ -456,6 +463,7 @@ impl Session {
                 self.numbers.len(),
                 self.figures.as_mut_ptr(),
                 self.figures.len(),
+                place,
                 answer.as_ptr(),
                 answer.len(),
                 out.as_mut_ptr(),
@@ -472,10 +480,11 @@ impl Session {
     fn progress(&self, t: Told, out: &[f64; MOST]) -> Progress {
         let places = out[..self.n()].to_vec();
         if t.is(layout::ASK) {
-            Progress::Ask {
+            Progress::Ask(Question {
+                place: t.place(),
                 time: t.told[0],
                 state: places,
-            }
+            })
         } else {
             let [right_hand_sides, jacobians, products] = t.counts();
             Progress::Ready {
@@ -496,10 +505,24 @@ impl Session {
         Ok(self.progress(t, &out))
     }
 
-    /// Supplies the derivative that was asked for. Where it is refused, the question stands, and can be answered again.
-    pub fn supply(&mut self, derivative: &[f64]) -> Result<Progress, Refusal> {
+    /// Supplies the derivative that the question at this place of the attempt asked for: [`Session::answer`] by the place alone, for a host that
+    /// sends its questions out of the program. Hand back the place that came with the question. Where the derivative is refused, the open question
+    /// stays open.
+    ///
+    /// ```
+    /// use vunchrem::{Progress, Refusal, Scheme, Session};
+    ///
+    /// let mut session = Session::open(Scheme::NorsettEuler, 0.0, &[1.0, 0.0], &[-1.0, 1.0], 1e-6, 1e-9)?;
+    /// assert!(matches!(session.begin(0.01, None)?, Progress::Ask(_)));
+    /// assert!(matches!(session.supply(0, &[-1.0, 1.0])?, Progress::Ask(_)));
+    /// assert_eq!(session.supply(0, &[-1.0, 1.0]), Err(Refusal::Question)); // that was answered already
+    /// assert!(matches!(session.supply(1, &[-1.0, 1.0])?, Progress::Ready { .. }));
+    /// assert_eq!(session.supply(1, &[-1.0, 1.0]), Err(Refusal::Phase)); // nothing is asked any more
+    /// # Ok::<(), Refusal>(())
+    /// ```
+    pub fn supply(&mut self, place: u64, derivative: &[f64]) -> Result<Progress, Refusal> {
         let mut out = [0.0; MOST];
-        let t = self.call_supply(derivative, &mut out)?;
+        let t = self.call_supply(place, derivative, &mut out)?;
         Ok(self.progress(t, &out))
     }
 
@@ -532,7 +555,8 @@ impl Session {
         t.sorted(code).map(drop)
     }
 
-    /// Drops the attempt, if there is one: the run is as the last accept, or open, left it.
+    /// Drops the attempt, if there is one: the run is as the last accept, or open, left it. An answer to it that is still on its way may be taken
+    /// for one to the next attempt, whose places count from 0 again, see [`Question`].
     pub fn drop_attempt(&mut self) -> Result<(), Refusal> {
         let mut t = Told::new();
         // SAFETY: as in `opened`.
@@ -656,7 +680,7 @@ impl Session {
         while t.is(layout::ASK) {
             let mut du = [0.0; MOST];
             f(t.told[0], &places[..n], &mut du[..n]);
-            t = self.call_supply(&du[..n], &mut places)?;
+            t = self.call_supply(t.place(), &du[..n], &mut places)?;
         }
         let mut du = [0.0; MOST];
         f(self.time() + step, &places[..n], &mut du[..n]);

@@ -46,6 +46,7 @@ extern "C" {
         numbers_len: usize,
         figures: *mut f64,
         figures_len: usize,
+        place: u64,
         answer: *const f64,
         answer_len: usize,
         out: *mut f64,

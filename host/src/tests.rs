@@ -1,8 +1,9 @@
-//! What the crate adds to the core: the driver, one tolerance or one for each component, saving; that a refusal leaves the session alone; and which
-//! count is which.
+//! What the crate adds to the core: the driver, questions as values, one tolerance or one for each component, saving; that a refusal leaves the session
+//! alone; and which count is which.
 use super::*;
 
 mod by_table;
+mod questions;
 
 // The session's numbers and the bits of its figures.
 fn bits(s: &Session) -> (Vec<u64>, Vec<u64>) {
@@ -75,10 +76,10 @@ fn the_driver_is_the_calls() {
     let mut progress = b.begin(0.02, None).unwrap();
     let ready = loop {
         match progress {
-            Progress::Ask { time, state } => {
+            Progress::Ask(question) => {
                 let mut du = [0.0; 2];
-                pair(time, &state, &mut du);
-                progress = b.supply(&du).unwrap();
+                pair(question.time(), question.state(), &mut du);
+                progress = b.answer(question, &du).unwrap();
             }
             Progress::Ready {
                 error_norm,
@@ -106,17 +107,23 @@ fn the_driver_is_the_calls() {
 #[test]
 fn a_nan_answer_is_refused_and_can_be_supplied_again() {
     let mut s = open(Scheme::Etdrk2);
-    let Progress::Ask { time, state } = s.begin(0.01, None).unwrap() else {
+    let Progress::Ask(mut question) = s.begin(0.01, None).unwrap() else {
         panic!("a differenced Jacobian asks")
     };
-    let kept = bits(&s);
-    assert_eq!(s.supply(&[f64::NAN, 0.0]), Err(Refusal::NotFinite));
-    assert_eq!(s.supply(&[0.0, f64::INFINITY]), Err(Refusal::NotFinite));
-    assert_eq!(s.supply(&[0.0]), Err(Refusal::Size));
-    assert_eq!(bits(&s), kept);
+    let (kept, asked) = (bits(&s), question.clone());
+    for (answer, refusal) in [
+        (&[f64::NAN, 0.0][..], Refusal::NotFinite),
+        (&[0.0, f64::INFINITY], Refusal::NotFinite),
+        (&[0.0], Refusal::Size),
+    ] {
+        let back = s.answer(question, answer).unwrap_err();
+        assert_eq!((back.refusal, &back.question), (refusal, &asked));
+        assert_eq!(bits(&s), kept);
+        question = back.question;
+    }
     let mut du = [0.0; 2];
-    pair(time, &state, &mut du);
-    assert!(s.supply(&du).is_ok());
+    pair(question.time(), question.state(), &mut du);
+    assert!(s.answer(question, &du).is_ok());
 }
 
 #[test]
@@ -129,7 +136,7 @@ fn refusals_leave_the_session_bit_for_bit() {
     assert_eq!(s.begin(0.1, Some(&[1.0])), Err(Refusal::Size));
     assert_eq!(s.begin(0.1, Some(&[f64::NAN; 4])), Err(Refusal::NotFinite));
     assert_eq!(s.begin(1.0, Some(&[2f64.powi(40); 4])), Err(Refusal::Arithmetic));
-    assert_eq!(s.supply(&[0.0, 0.0]), Err(Refusal::Phase));
+    assert_eq!(s.supply(0, &[0.0, 0.0]), Err(Refusal::Phase));
     assert_eq!(s.accept(&[0.0, 0.0]), Err(Refusal::Phase));
     assert_eq!(s.accept(&[0.0]), Err(Refusal::Phase));
     assert_eq!(s.first_step(f64::NAN), Err(Refusal::Step));
@@ -209,7 +216,7 @@ fn known_values() {
         .unwrap();
         match s.begin(1.0, Some(&[0.0])).unwrap() {
             Progress::Ready { candidate, .. } => candidate[0],
-            Progress::Ask { .. } => panic!("these schemes ask nothing"),
+            Progress::Ask(_) => panic!("these schemes ask nothing"),
         }
     };
     assert_eq!(candidate(Scheme::NorsettEuler, None), 3.0);
@@ -299,7 +306,7 @@ fn products(mut s: Session, step: f64, jacobian: &[f64], answer: &[f64]) -> u32 
     let mut progress = s.begin(step, Some(jacobian)).unwrap();
     loop {
         match progress {
-            Progress::Ask { .. } => progress = s.supply(answer).unwrap(),
+            Progress::Ask(question) => progress = s.answer(question, answer).unwrap(),
             Progress::Ready { products, .. } => return products,
         }
     }
@@ -400,7 +407,7 @@ fn products_grow_with_stiffness_up_to_their_bound() {
 
 #[test]
 fn refusals_have_numbers_and_words() {
-    for k in 1..=8 {
+    for k in 1..=9 {
         let r = Refusal::of(k);
         assert_eq!(r.number() as u64, k);
         assert!(r.to_string().starts_with(&format!("refused by {k}: ")));
@@ -494,17 +501,18 @@ fn calls(s: &mut Session, jacobian: Option<&[f64]>, between: fn(&mut Session)) -
     let mut told = vec![s.begin(0.01, jacobian).unwrap()];
     loop {
         between(s);
-        let (time, state, asked) = match told.last().unwrap() {
-            Progress::Ask { time, state } => (*time, state, true),
-            Progress::Ready { candidate, .. } => (s.time() + 0.01, candidate, false),
-        };
         let mut du = [0.0; 2];
-        pair(time, state, &mut du);
-        if !asked {
-            s.accept(&du).unwrap();
-            return told;
+        match told.last().unwrap().clone() {
+            Progress::Ask(question) => {
+                pair(question.time(), question.state(), &mut du);
+                told.push(s.answer(question, &du).unwrap());
+            }
+            Progress::Ready { candidate, .. } => {
+                pair(s.time() + 0.01, &candidate, &mut du);
+                s.accept(&du).unwrap();
+                return told;
+            }
         }
-        told.push(s.supply(&du).unwrap());
     }
 }
 
@@ -580,8 +588,8 @@ fn saved_bytes_are_the_image_of_the_console() {
     let mut s =
         Session::open_with_history(Scheme::Etd2, 0.1, &u(1.0), &u(2.0), 1e-6, &[1e-3, 1e-2, 1e-4], &u(3.0)).unwrap();
     s.begin(-0.5, None).unwrap();
-    s.supply(&u(4.0)).unwrap();
-    s.supply(&u(5.0)).unwrap();
+    s.supply(0, &u(4.0)).unwrap();
+    s.supply(1, &u(5.0)).unwrap();
     let bytes = s.save();
     assert_eq!(bytes.len(), 5149);
     assert_eq!(bytes[..5], [13, 3, 1, 2, 2]);
@@ -627,13 +635,18 @@ fn every_nan_is_saved_as_one() {
     assert!(Session::restore(&bytes).unwrap().save() == bytes);
 }
 
+// Places that a question may have, and others.
+const PLACES: [u64; 8] = [0, 1, 2, 19, 255, 256, 1 << 32, u64::MAX];
+
 // Every call on a session refuses it by this number, with vectors of every length, and leaves it alone.
 fn refused_by_all(s: &mut Session, refusal: Refusal) {
     let kept = bits(s);
     for length in [0, 1, 2, 16, 17, 256, 289] {
         let x = vec![0.0; length];
         assert_eq!(s.begin(0.01, Some(&x)), Err(refusal));
-        assert_eq!(s.supply(&x), Err(refusal));
+        for place in PLACES {
+            assert_eq!(s.supply(place, &x), Err(refusal));
+        }
         assert_eq!(s.accept(&x), Err(refusal));
         assert_eq!(s.step_with_jacobian(0.01, &x, pair), Err(refusal));
     }
@@ -653,7 +666,7 @@ fn forged_bytes_are_refused_by_the_next_call() {
     let mut s = open(Scheme::Exprb43);
     let rest = s.save();
     s.begin(0.01, None).unwrap();
-    s.supply(&[0.0; 2]).unwrap();
+    s.supply(0, &[0.0; 2]).unwrap();
     let asking = s.save();
     let forged = |bytes: &[u8], at: usize, with: &[u8]| {
         let mut bytes = bytes.to_vec();
@@ -693,12 +706,19 @@ fn forged_bytes_are_refused_by_the_next_call() {
         (s.accept(&[]), s.begin(0.01, Some(&[]))),
         (Err(Refusal::Phase), Err(Refusal::Tolerance))
     );
-    assert_eq!(
-        forged(&asking, 29, &0f64.to_le_bytes()).supply(&[]),
-        Err(Refusal::Tolerance)
-    );
+    // the place of the question after the phase, and before the tolerances
+    for (place, refusal) in [(0, Refusal::Question), (1, Refusal::Tolerance)] {
+        assert_eq!(
+            forged(&asking, 29, &0f64.to_le_bytes()).supply(place, &[]),
+            Err(refusal)
+        );
+        assert_eq!(
+            forged(&rest, 29, &0f64.to_le_bytes()).supply(place, &[]),
+            Err(Refusal::Phase)
+        );
+    }
     // an attempt above 2 counts as 2
     let mut s = forged(&asking, 3, &[7]);
     assert!(s.save() == asking);
-    assert!(s.supply(&[0.0; 2]).is_ok());
+    assert!(s.supply(1, &[0.0; 2]).is_ok());
 }

@@ -313,7 +313,7 @@ fn a_whole_step_refuses_in_its_order() {
     let mut s = open_stiff(Scheme::Exprb43);
     s.begin(0.01, None).unwrap();
     assert_eq!(refused(&mut s, 0.0, &bad), Refusal::Phase);
-    s.supply(&[0.0; 2]).unwrap();
+    s.supply(0, &[0.0; 2]).unwrap();
     assert_eq!(refused(&mut s, 0.01, &stiff()), Refusal::Phase);
     s.drop_attempt().unwrap();
     // the table before the step, the step before any evaluation
