@@ -264,6 +264,13 @@ pub fn put_image(out: &mut Vec<u8>, session: &Session) {
     put_vectors(out, &session.answers);
 }
 
+/// A session's image.
+pub fn image(session: &Session) -> Vec<u8> {
+    let mut bytes = Vec::new();
+    put_image(&mut bytes, session);
+    bytes
+}
+
 pub fn put_answer(out: &mut Vec<u8>, answer: &Answer) {
     let (outcome, refusal, figure, counts) = match *answer {
         Answer::Refused(number) => (0, number, 0.0, [0; 3]),

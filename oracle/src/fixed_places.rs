@@ -5,9 +5,9 @@ use crate::bits::power_of_two;
 use crate::console::Call;
 use crate::field::Field;
 use crate::fixed_script::{
-    accept, begin, difference, forged, in_attempt, matrix, opening, resting, supply, vector,
+    accept, begin, difference, forged, in_attempt, matrix, opening, resting, supply,
 };
-use crate::model::{Answer, Attempt, Opening, Session, Vector};
+use crate::model::{Answer, Attempt, Opening, Session, Vector, vector};
 use crate::old_session::OldSession;
 use crate::pass::QUESTIONS;
 use crate::random::Random;

@@ -9,7 +9,7 @@ use crate::field::Field;
 use crate::fixed_places::places;
 use crate::fixed_steps::whole_steps;
 use crate::lists::List;
-use crate::model::{Answer, Attempt, Matrix, Opening, PLACES, Session, Vector};
+use crate::model::{Answer, Attempt, Matrix, Opening, PLACES, Session, vector};
 use crate::old_session::OldSession;
 use crate::pass::{ETD2, QUESTIONS, STIFFEST};
 use crate::random::Random;
@@ -60,12 +60,6 @@ pub fn fixed_script() -> Script {
     places(&mut script);
     script.call(&Call::Show);
     script
-}
-
-pub(crate) fn vector(values: &[f64]) -> Vector {
-    let mut vector = [0.0; PLACES];
-    vector[..values.len()].copy_from_slice(values);
-    vector
 }
 
 pub(crate) fn matrix(values: &[f64]) -> Box<Matrix> {

@@ -3,8 +3,8 @@
 
 use crate::bits::power_of_two;
 use crate::console::Call;
-use crate::fixed_script::{difference, in_attempt, opening, opening_of_three, resting, vector};
-use crate::model::{Opening, PLACES, Session};
+use crate::fixed_script::{difference, in_attempt, opening, opening_of_three, resting};
+use crate::model::{Opening, PLACES, Session, vector};
 use crate::script::Script;
 use crate::table::{RECORDS, Record, Table, bytes_of};
 use crate::tolerances::alike;

@@ -20,6 +20,13 @@ pub const LARGEST_SIZE: usize = 20;
 pub type Vector = [f64; PLACES];
 pub type Matrix = [f64; PLACES * PLACES];
 
+/// The values, with +0.0 in the places past them.
+pub fn vector(values: &[f64]) -> Vector {
+    let mut vector = [0.0; PLACES];
+    vector[..values.len()].copy_from_slice(values);
+    vector
+}
+
 #[derive(Clone, Copy, Debug, Eq, PartialEq)]
 pub enum Attempt {
     None,

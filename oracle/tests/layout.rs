@@ -1,7 +1,7 @@
 //! The model's image and replies have the layout that the core's crate `image` has: crates/layout writes its constants, and the gate holds that
 //! program to its stdout.
 
-use oracle::console::{self, BRING_OVER, BYTES, FIGURES, NUMBERS, SHOW, put_answer, put_image};
+use oracle::console::{self, BRING_OVER, BYTES, FIGURES, NUMBERS, SHOW, image, put_answer};
 use oracle::model::{ANSWERS, Answer, Attempt, PLACES, Session};
 use oracle::old_session::{OLD_BYTES, OLD_FIGURES, OldSession};
 
@@ -11,12 +11,6 @@ fn constant(name: &str) -> usize {
     let value = found.next().unwrap_or_else(|| panic!("no {name}"));
     assert!(found.next().is_none(), "{name} twice");
     value.parse().unwrap()
-}
-
-fn image(session: &Session) -> Vec<u8> {
-    let mut bytes = Vec::new();
-    put_image(&mut bytes, session);
-    bytes
 }
 
 // The number at a place, and the figure.

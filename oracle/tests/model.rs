@@ -3,10 +3,10 @@
 use oracle::bits::{pattern, same};
 use oracle::bytes::Reader;
 use oracle::compare::first_difference;
-use oracle::console::{self, BEFORE, Call, Console, NUMBERS, WHOLE_STEP, put_call, put_image, read_call};
+use oracle::console::{self, BEFORE, Call, Console, NUMBERS, WHOLE_STEP, image, put_call, read_call};
 use oracle::field::Field;
 use oracle::fixed_script::fixed_script;
-use oracle::model::{Answer, Attempt, Opening, PLACES, Session, Vector, bare_exponential, bare_phi_action};
+use oracle::model::{Answer, Attempt, Opening, PLACES, Session, bare_exponential, bare_phi_action, vector};
 use oracle::pass::ETD2;
 use oracle::random::Random;
 use oracle::random_script::{damaged, random_script};
@@ -17,18 +17,6 @@ use oracle::script::{
 use oracle::table::{RULES, Record, Table, bytes_of};
 use oracle::tolerances::alike;
 use oracle::{OdeProblem, SolveOptions, SolverStats, compared, published, watch};
-
-fn vector(values: &[f64]) -> Vector {
-    let mut vector = [0.0; PLACES];
-    vector[..values.len()].copy_from_slice(values);
-    vector
-}
-
-fn image(session: &Session) -> Vec<u8> {
-    let mut bytes = Vec::new();
-    put_image(&mut bytes, session);
-    bytes
-}
 
 fn calls_of(script: &[u8]) -> Vec<Call> {
     let mut reader = Reader::new(script);

@@ -1,23 +1,11 @@
 //! The places of questions in the model: each Ask carries one, and supply hands it back.
 
-use oracle::console::{BEFORE, put_image};
+use oracle::console::{BEFORE, image};
 use oracle::field::Field;
-use oracle::model::{Answer, Attempt, Opening, PLACES, Session, Vector};
+use oracle::model::{Answer, Attempt, Opening, PLACES, Session, Vector, vector};
 use oracle::pass::QUESTIONS;
 use oracle::random::Random;
 use oracle::tolerances::alike;
-
-fn vector(values: &[f64]) -> Vector {
-    let mut vector = [0.0; PLACES];
-    vector[..values.len()].copy_from_slice(values);
-    vector
-}
-
-fn image(session: &Session) -> Vec<u8> {
-    let mut bytes = Vec::new();
-    put_image(&mut bytes, session);
-    bytes
-}
 
 struct Run {
     field: Field,

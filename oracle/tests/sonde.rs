@@ -4,18 +4,12 @@ use oracle::bits::power_of_two;
 use oracle::bytes::{put_double, put_doubles};
 use oracle::console::{Call, Console};
 use oracle::inputs::{Reached, Unread, difference, ends_quietly};
-use oracle::model::{Answer, Opening, PLACES, Vector};
+use oracle::model::{Answer, Opening, vector};
 use oracle::random_input::{Case, decay, fixed, inputs, longest};
 use oracle::sonde::{Input, Run, UNWRITTEN, logging, run};
 use oracle::table::{Record, Table, bytes_of};
 use std::collections::BTreeMap;
 use std::path::Path;
-
-fn vector(values: &[f64]) -> Vector {
-    let mut vector = [0.0; PLACES];
-    vector[..values.len()].copy_from_slice(values);
-    vector
-}
 
 fn refusal(input: &Input) -> Option<u8> {
     run(&input.bytes()).refusal

@@ -2,8 +2,8 @@
 
 use oracle::bits::{pattern, power_of_two};
 use oracle::bytes::Reader;
-use oracle::console::{BEFORE, Console, put_image, read_call};
-use oracle::model::{ANSWERS, Answer, Attempt, Opening, PLACES, Session, Vector, bare_error_norm};
+use oracle::console::{BEFORE, Console, image, read_call};
+use oracle::model::{ANSWERS, Answer, Attempt, Opening, PLACES, Session, bare_error_norm, vector};
 use oracle::old_session::OldSession;
 use oracle::pass::{ETD2, QUESTIONS};
 use oracle::random::Random;
@@ -116,12 +116,6 @@ fn unequal_tolerances_are_equal_ones_in_other_units() {
         let options = SolveOptions::tolerances(relative, single);
         assert_eq!(told, figures.published(&options, f64::INFINITY), "turn {turn}");
     }
-}
-
-fn vector(values: &[f64]) -> Vector {
-    let mut vector = [0.0; PLACES];
-    vector[..values.len()].copy_from_slice(values);
-    vector
 }
 
 /// Two components, their derivatives 1 and 1, under Exprb32.
@@ -375,12 +369,6 @@ fn the_tolerance_goes_to_each_component_and_nowhere_else() {
         let by_1 = number(&old.brought_over(), Taking::Drop) == 1;
         assert_eq!(by_1, !(1..=16).contains(&n), "n {n}");
     }
-}
-
-fn image(session: &Session) -> Vec<u8> {
-    let mut bytes = Vec::new();
-    put_image(&mut bytes, session);
-    bytes
 }
 
 /// A sound session with equal tolerances, saved under the old layout and brought over, is itself again, in every phase.

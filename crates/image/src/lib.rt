@@ -43,8 +43,8 @@ pub const BYTES: usize = NUMBERS + 8 * FIGURES;
 
 pub const OLD_BYTES: usize = NUMBERS + 8 * OLD_FIGURES;
 
-// Among the words in which a reply's outcome, refusal and counts cross. Of Ask the first count is the question's place; of Ready they are right-hand sides, Jacobians and matrix
-// products; of Filled terms, squarings and 0; all others are 0.
+// Among the words in which a reply's outcome, refusal and counts cross. The counts are, of Ask, the question's place, 0 and 0; of Ready,
+// right-hand sides, Jacobians and matrix products; of Filled, terms, squarings and 0; otherwise 0.
 pub const OUTCOME_AT: usize = 0;
 
 pub const REFUSAL_AT: usize = OUTCOME_AT + 1;

@@ -20,7 +20,7 @@ use Rattle.session.specs.Values.{values_of, number}
 use Rattle.session.specs.Session.{open_place, wanted, wanted_by, phase_at, phase_of, phase_number, admits, names, good1, good2, good7, good9, session_tests, fresh, idle, progress}
 use Rattle.session.specs.Calls.{Outcome, tell, refuse, refuse_lent, opened, begun, rested, answered, moved, shown, arrived, settled, ready_of}
 use Rattle.session.specs.Calls.{largest_tests, attempt_tests, vector_tests, begin_tests, supply_tests, accept_tests, first_step_tests, begin_call, supply_call, accept_call, drop_call, first_step_call}
-use Rattle.session.specs.Runs.{Call, begin, supply, accept, drop, first_step, perform, after}
+use Rattle.session.specs.Runs.{Call, begin, supply, accept, drop, first_step, wants_of, perform, after}
 use Rattle.session.specs.Refusals.{First, works}
 use Rattle.session.specs.Claims.{TypedCall, TypedCalls, CountedBy, Counted, Closed}
 use Rattle.session.specs.Questions.{Taken, asks, TurnedDown, is_begin, is_supply, Within, Questions}
@@ -30,51 +30,28 @@ use Rattle.session.proofs.Counts.{counts}
 use Rattle.session.proofs.Refusals.{numbers}
 use Rattle.session.proofs.Closed.{Good, not_refused, good_closed, kept_or_accepted, performed_good, after_good, closes}
 
--- ---- the place that an Ask carries
+-- ---- what a call that is taken leaves
 
-AsksAt : ℕ → Result Answer Refusal → Type 0
-AsksAt place a = (asked : ℕ) (time : Float) → a ≡ Ok (Ask asked time) → asked ≡ place
+shown_taken : (old s : Session) (o : List Float) (p : Progress) → Taken (shown old s o p) → (shown old s o p).told.session ≡ s
+unfolding shown
+shown_taken old s o refused e = not_refused Why.Arithmetic e
+shown_taken old s o (asking x t) e = refl
+shown_taken old s o (ended x d g w) e = refl
 
-never : {A : Type 0} (why : Refusal) (asked : ℕ) (time : Float) → ◌≡◌ {A = Result Answer Refusal} (Err why) (Ok (Ask asked time)) → A
-never why asked time e = cc
-
-shown_asks : (old s : Session) (o : List Float) (p : Progress) (place : ℕ) → s.count ≡ place → AsksAt place (shown old s o p).told.answer
-unfolding AsksAt shown ready_of
-shown_asks old s o refused place h = λ asked time e. cc
-shown_asks old s o (asking x t) place h = λ asked time e. let same : s.count ≡ asked = cc in sym same ∙ h
-shown_asks old s o (ended x d g w) place h = λ asked time e. cc
-
-call_asks : (k : Result ⊤ Refusal) (s : Session) (o : List Float) (r : Outcome) (place : ℕ) → (k ≡ Ok tt → AsksAt place r.told.answer)
-    → AsksAt place (unless k (refuse_lent s o) r).told.answer
-call_asks k s o r place h = unless_either k (refuse_lent s o) r (λ r. AsksAt place r.told.answer) (λ why. unfold AsksAt in λ asked time e. never why asked time e) h
-
-first_asks : (s : Session) (step : Float) (w : Wish) (j o : List Float) → AsksAt 0 (begin_call s step w j o).told.answer
+taken_begin : (s : Session) (step : Float) (w : Wish) (j o : List Float) → Taken (begin_call s step w j o) → (begin_call s step w j o).told.session ≡ begun s step (Some w) j
 unfolding begin_call
-first_asks s step w j o =
-    let none : (begun s step (Some w) j).count ≡ 0 = unfold begun fresh in refl in
-    call_asks _ s o _ 0 (λ _. shown_asks s (begun s step (Some w) j) o (progress (begun s step (Some w) j)) 0 none)
-
-next_asks : (s : Session) (place : ℕ) (x o : List Float) → AsksAt (place + 1) (supply_call s place x o).told.answer
-unfolding supply_call
-next_asks s place x o =
-    call_asks (tested (supply_tests s place x (length o))) s o _ (place + 1) (λ e.
-    let same : (answered s x).count ≡ place + 1 = unfold answered in ap (λ (q : ℕ). q + 1) (sym (open_named s place (supply_passes s place x (length o) e).0)) in
-    shown_asks s (answered s x) o (progress (answered s x)) (place + 1) same)
-
--- ---- what a supply that is taken leaves
+taken_begin s step w j o =
+    let next = begun s step (Some w) j in
+    unless_either (tested (begin_tests s step (Some w) j (length o))) (refuse_lent s o) (shown s next o (progress next)) (λ r. Taken r → r.told.session ≡ next)
+    (λ why e. not_refused why e) (λ _ t. shown_taken s next o (progress next) t)
 
 taken_answer : (s : Session) (place : ℕ) (x o : List Float) → Taken (supply_call s place x o) → (place ≡ s.count) × ((supply_call s place x o).told.session ≡ answered s x)
-unfolding supply_call shown
+unfolding supply_call
 taken_answer s place x o =
     let next = answered s x in
     unless_either (tested (supply_tests s place x (length o))) (refuse_lent s o) (shown s next o (progress next)) (λ r. Taken r → (place ≡ s.count) × (r.told.session ≡ next))
     (λ why e. not_refused why e)
-    (λ e t. (open_named s place (supply_passes s place x (length o) e).0, go (progress next) t))
-  where
-    go : (p : Progress) → Taken (shown s (answered s x) o p) → (shown s (answered s x) o p).told.session ≡ answered s x
-    go refused e = not_refused Why.Arithmetic e
-    go (asking y t) e = refl
-    go (ended y d g w) e = refl
+    (λ e t. (open_named s place (supply_passes s place x (length o) e).0, shown_taken s next o (progress next) t))
 
 -- ---- every Ask carries the place of the question that its session asks
 
@@ -83,6 +60,9 @@ asking_phase : (a : Option Wish) (scheme n count : ℕ) → count < wanted schem
 unfolding phase_at
 asking_phase None scheme n count h = let none : wanted scheme n None ≡ 0 = unfold wanted in refl in absurd (omega (arith, h, none))
 asking_phase (Some w) scheme n count h = rw (lt-ltb count (wanted scheme n (Some w)) h)
+
+never : {A : Type 0} (why : Refusal) (asked : ℕ) (time : Float) → ◌≡◌ {A = Result Answer Refusal} (Err why) (Ok (Ask asked time)) → A
+never why asked time e = cc
 
 Carries : Told → Type 0
 Carries r = (asked : ℕ) (time : Float) → r.answer ≡ Ok (Ask asked time) → phase_of r.session ≡ Asking asked
@@ -135,15 +115,15 @@ asking_count s asked e = go s.attempt (ltb s.count (wanted_by s)) e
     go (Some w) true e = cc
     go (Some w) false e = cc
 
-asked_number : (place : ℕ) (time : Float) → number (Ok (Ask place time)) ≡ 0
+-- what asks is taken
+asked_taken : (o : Outcome) (asked : ℕ) (time : Float) → o.told.answer ≡ Ok (Ask asked time) → Taken o
 unfolding number values_of
-asked_number place time = refl
+asked_taken o asked time e = ap (λ (a : Result Answer Refusal). (values_of a).refusal) e
 
 carried_by : (c : Call) (s : Session) (asked : ℕ) (time : Float) → (perform c s).told.answer ≡ Ok (Ask asked time) → phase_of (perform c s).told.session ≡ Asking asked
 unfolding Carries
 carried_by c s = performed_carries c s
 
--- given back, it is not refused because of the session
 -- a session that asks a question takes a supply that names it
 pub asked_passes : (t : Session) (asked : ℕ) → Closed t → phase_of t ≡ Asking asked → tested (session_tests (Some (Asking asked)) t) ≡ Ok tt
 unfolding Closed good7 good9 admits names phase_number
@@ -155,7 +135,22 @@ asked_passes t asked closed asks =
 given_back : (c : Call) (s : Session) → TypedCall c → (asked : ℕ) (time : Float) → (perform c s).told.answer ≡ Ok (Ask asked time)
     → tested (session_tests (Some (Asking asked)) (perform c s).told.session) ≡ Ok tt
 given_back c s typed asked time e =
-    asked_passes (perform c s).told.session asked (closes.call c s typed (ap number e ∙ asked_number asked time)) (carried_by c s asked time e)
+    asked_passes (perform c s).told.session asked (closes.call c s typed (asked_taken (perform c s) asked time e)) (carried_by c s asked time e)
+
+-- the first question of an attempt carries 0, and each the place after that of the answer before it
+first_place : (s : Session) (step : Float) (w : Wish) (j o : List Float) (asked : ℕ) (time : Float) → (begin_call s step w j o).told.answer ≡ Ok (Ask asked time) → asked ≡ 0
+unfolding perform
+first_place s step w j o asked time e =
+    let left = taken_begin s step w j o (asked_taken (begin_call s step w j o) asked time e) in
+    let none : (begun s step (Some w) j).count ≡ 0 = unfold begun fresh in refl in
+    asking_count (begin_call s step w j o).told.session asked (carried_by (begin step w j o) s asked time e) ∙ ap (λ (t : Session). t.count) left ∙ none
+
+next_place : (s : Session) (place : ℕ) (x o : List Float) (asked : ℕ) (time : Float) → (supply_call s place x o).told.answer ≡ Ok (Ask asked time) → asked ≡ place + 1
+unfolding perform
+next_place s place x o asked time e =
+    let left = taken_answer s place x o (asked_taken (supply_call s place x o) asked time e) in
+    let more : (answered s x).count ≡ s.count + 1 = unfold answered in refl in
+    asking_count (supply_call s place x o).told.session asked (carried_by (supply place x o) s asked time e) ∙ ap (λ (t : Session). t.count) left.1 ∙ more ∙ ap (λ (q : ℕ). q + 1) (sym left.0)
 
 -- ---- which places are refused by 9
 
@@ -220,42 +215,42 @@ none_unasked : Unasked []
 unfolding Unasked
 none_unasked = tt
 
-same_place : (s : Session) (x o : List Float) → number (supply_call s (open_place s) x o).told.answer ≡ 9 → ⊥
-unfolding supply_tests
-same_place s x o =
-    let named : good9 (Some (Asking (open_place s))) s ≡ true = unfold good9 names in eq-eqb s.count s.count refl in
-    not_nine _ _
-    (both_unasked (supply_tests s (open_place s) x (length o)) _
-    (both_unasked (session_tests (Some (Asking (open_place s))) s) _ (session_unasked _ s named) (vector_unasked s.n x (eqb (length o) s.n)))
-    (six_unasked (works (progress (answered s x))) [] none_unasked))
-    (numbers.supply s (open_place s) x o)
-
--- a call that names no question is not refused by 9
-unnamed : (c : Call) (s : Session) → is_supply c ≡ false → number (perform c s).told.answer ≡ 9 → ⊥
-unfolding perform is_supply begin_tests accept_tests first_step_tests
-unnamed (begin step w j o) s q =
+-- a call that names no question, or the open one, is not refused by 9
+named_open : (c : Call) (s : Session) → names (wants_of c) (open_place s) ≡ true → number (perform c s).told.answer ≡ 9 → ⊥
+unfolding perform wants_of good9 begin_tests supply_tests accept_tests first_step_tests
+named_open (begin step w j o) s named =
     not_nine _ _
     (both_unasked (begin_tests s step (Some w) j (length o)) _
-    (both_unasked (session_tests (Some Rest) s) _ (session_unasked _ s (unfold good9 names in refl)) (attempt_unasked s.n step (Some w) j (length o)))
+    (both_unasked (session_tests (Some Rest) s) _ (session_unasked (Some Rest) s named) (attempt_unasked s.n step (Some w) j (length o)))
     (six_unasked (works (progress (begun s step (Some w) j))) [] none_unasked))
     (numbers.begin s step w j o)
-unnamed (supply place x o) s q = absurd (false≢true (sym q))
-unnamed (accept f) s q =
+named_open (supply place x o) s named =
+    not_nine _ _
+    (both_unasked (supply_tests s place x (length o)) _
+    (both_unasked (session_tests (Some (Asking place)) s) _ (session_unasked (Some (Asking place)) s named) (vector_unasked s.n x (eqb (length o) s.n)))
+    (six_unasked (works (progress (answered s x))) [] none_unasked))
+    (numbers.supply s place x o)
+named_open (accept f) s named =
     not_nine _ _
     (both_unasked (accept_tests s f) _
-    (both_unasked (session_tests (Some Waiting) s) _ (session_unasked _ s (unfold good9 names in refl)) (vector_unasked s.n f true))
+    (both_unasked (session_tests (Some Waiting) s) _ (session_unasked (Some Waiting) s named) (vector_unasked s.n f true))
     (six_unasked (works (progress s)) _ (six_unasked (finite (s.time ⊕ s.step)) [] none_unasked)))
     (numbers.accept s f)
-unnamed drop s q = not_nine _ _ (session_unasked None s (unfold good9 names in refl)) (numbers.drop s)
-unnamed (first_step largest) s q =
-    not_nine _ _ (both_unasked (session_tests None s) _ (session_unasked None s (unfold good9 names in refl)) (largest_unasked largest)) (numbers.first_step s largest)
+named_open drop s named = not_nine _ _ (session_unasked None s named) (numbers.drop s)
+named_open (first_step largest) s named =
+    not_nine _ _ (both_unasked (session_tests None s) _ (session_unasked None s named) (largest_unasked largest)) (numbers.first_step s largest)
+
+same_place : (s : Session) (x o : List Float) → number (supply_call s (open_place s) x o).told.answer ≡ 9 → ⊥
+unfolding perform wants_of names
+same_place s x o = named_open (supply (open_place s) x o) s (eq-eqb s.count s.count refl)
 
 only_supply : (c : Call) (s : Session) → number (perform c s).told.answer ≡ 9 → is_supply c ≡ true
-only_supply c s e = go (is_supply c) refl
-  where
-    go : (b : Bool) → is_supply c ≡ b → b ≡ true
-    go true q = refl
-    go false q = absurd (unnamed c s q e)
+unfolding wants_of names is_supply
+only_supply (begin step w j o) s e = absurd (named_open (begin step w j o) s refl e)
+only_supply (supply place x o) s e = refl
+only_supply (accept f) s e = absurd (named_open (accept f) s refl e)
+only_supply drop s e = absurd (named_open drop s refl e)
+only_supply (first_step largest) s e = absurd (named_open (first_step largest) s refl e)
 
 other_place : (s : Session) (place : ℕ) (x o : List Float) → (place ≡ open_place s → ⊥)
     → First ((good1 s, Why.Places) ∷ (good2 s, Why.Scheme) ∷ (good7 (Some (Asking place)) s, Why.Phase) ∷ (false, Why.Question) ∷ []) (number (supply_call s place x o).told.answer)
@@ -308,9 +303,9 @@ strayed s place past (inl none) h p q =
     omega (arith, eqb-true 1 _ e, none_is)
 strayed s place past (inr late) h p q = let e : past ≡ s.count = eqb-true past s.count (unfold good9 names in q) in omega (arith, late, h, e)
 
-accept_over : (s : Session) (f : List Float) → number (accept_call s f).answer ≡ 0 → (accept_call s f).session.attempt ≡ None
+accept_ends : (s : Session) (f : List Float) → number (accept_call s f).answer ≡ 0 → (accept_call s f).session.attempt ≡ None
 unfolding accept_call settled arrived moved opened idle fresh
-accept_over s f =
+accept_ends s f =
     unless_either (tested (accept_tests s f)) (refuse s) (settled s f (progress s)) (λ r. number r.answer ≡ 0 → r.session.attempt ≡ None) (λ why e. not_refused why e) (λ _. go (progress s))
   where
     go : (p : Progress) → number (settled s f p).answer ≡ 0 → (settled s f p).session.attempt ≡ None
@@ -323,9 +318,9 @@ accept_over s f =
         last true e = refl
         last false e = not_refused Why.Arithmetic e
 
-drop_over : (s : Session) → number (drop_call s).answer ≡ 0 → (drop_call s).session.attempt ≡ None
+drop_ends : (s : Session) → number (drop_call s).answer ≡ 0 → (drop_call s).session.attempt ≡ None
 unfolding drop_call
-drop_over s =
+drop_ends s =
     unless_either (tested (session_tests None s)) (refuse s) (tell Resting (rested s)) (λ r. number r.answer ≡ 0 → r.session.attempt ≡ None) (λ why e. not_refused why e)
     (λ _ _. unfold rested opened idle fresh in refl)
 
@@ -345,8 +340,8 @@ past_on place c s within past = elim (kept_or_accepted c s) [ inl e ↦ taken c 
     taken : (c : Call) → (is_begin c ≡ true → Taken (perform c s) → ⊥) → Taken (perform c s) → Past place (perform c s).told.session
     taken (begin step w j o) within e = absurd (within refl e)
     taken (supply at x o) within e = subst (Past place) (sym (taken_answer s at x o e).1) (past_answered place s x past)
-    taken (accept f) within e = unfold Past in inl (accept_over s f e)
-    taken drop within e = unfold Past in inl (drop_over s e)
+    taken (accept f) within e = unfold Past in inl (accept_ends s f e)
+    taken drop within e = unfold Past in inl (drop_ends s e)
     taken (first_step largest) within e = subst (Past place) (sym (first_same s largest)) past
 
 past_after : (place : ℕ) (cs : List Call) (s : Session) → Within s cs → Past place s → Past place (after s cs)
@@ -374,8 +369,8 @@ module _ (s : Session) (place : ℕ) (x o : List Float) (sixteen : length x ≡ 
 -- ---- THE CLAIM
 pub questions : Questions
 questions = record {
-  first = λ s step wish jacobian out asked time e. unfold AsksAt in first_asks s step wish jacobian out asked time e;
-  next = λ s place answer out asked time e. unfold AsksAt in next_asks s place answer out asked time e;
+  first = first_place;
+  next = next_place;
   carried = carried_by;
   back = given_back;
   same = same_place;

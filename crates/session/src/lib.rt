@@ -57,8 +57,8 @@ pub enum Wish {
     Difference,
 }
 
-// What a call tells the host. Ask: the question's place in the attempt, from 0, and its time. Ready: the error norm, right-hand sides, Jacobians and matrix products. Filled:
-// the terms and squarings of the exponential.
+// What a call tells the host. Ask: the question's place in the attempt, from 0, and its time. Ready: the error norm, right-hand sides,
+// Jacobians and matrix products. Filled: the terms and squarings of the exponential.
 #[derive(Clone, Copy)]
 pub enum Answer {
     Ask(u32, f64),
@@ -70,7 +70,7 @@ pub enum Answer {
 }
 
 // Why a call is refused: places or a dimension, the scheme with its history and answers, a number that is not finite, a tolerance, a step,
-// arithmetic that is not admitted, the phase; by the crate `table` alone, a table of equations; an answer to another question.
+// arithmetic that is not admitted, the phase, an answer to another question; and, by the crate `table` alone, a table of equations.
 #[derive(Clone, Copy, Debug, PartialEq, Eq)]
 pub enum Refusal {
     Places,
