@@ -1,5 +1,6 @@
 pub mod Vectors
 pub mod Products
+pub mod Squarings
 pub mod Powers
 pub mod Series
 pub mod RowSums

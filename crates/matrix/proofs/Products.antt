@@ -1,5 +1,5 @@
 -- The product and the identity, row by row. Assumes nothing.
-use Rattle.std.proofs.Common.{ℕ, zero, suc, ◌+◌, ◌*◌, ◌/◌, ◌%◌, ◌<◌, ◌≡◌, refl, sym, ap, ◌∙◌, cond, List, arith, length, take, drop, eq-eqb, ne_eqb, Float}
+use Rattle.std.proofs.Common.{ℕ, zero, suc, ◌+◌, ◌*◌, ◌/◌, ◌%◌, ◌<◌, ◌≡◌, sym, ap, ◌∙◌, cond, List, arith, length, take, drop, eq-eqb, ne_eqb, Float}
 use Rattle.std.proofs.Math.Numerals.{add-one}
 use Rattle.std.proofs.Math.Nat.{suc-mul, not-suc-le-zero}
 use Rattle.std.proofs.Math.Decide.{ℕ_discrete}
@@ -15,7 +15,7 @@ use Rattle.loops.proofs.Stores.{tab_ext, stores-suc, stores_all, stores_join, st
 use Rattle.loops.proofs.Places.{row_fits, place_row, place_column}
 use Rattle.float.specs.Arith.{◌⊕◌, ◌⊗◌, zero+, one, abs, sum_of}
 use Rattle.float.proofs.Sums.{sum_ext}
-use Rattle.matrix.specs.Matrix.{at, mat_mul, identity, row_sum, squared}
+use Rattle.matrix.specs.Matrix.{at, mat_mul, identity, row_sum}
 use Rattle.matrix.specs.Calls.{row, products}
 
 -- ---- one row of a matrix
@@ -98,30 +98,3 @@ unfolding identity mat
 identity_end n i o z p h l d e =
     rw (h, d, l) at e ∙ stores_all (diagonal n) (n * n) (replicate (n * n) zero+) (length-replicate (n * n) zero+)
     ∙ tab_ext (n * n) _ _ (λ p q. rw (get_or-replicate (n * n) p zero+ nan q))
-
--- ---- the squarings
-squared_front : (k n : ℕ) (m : List Float) → squared k (mat_mul m m n) n ≡ squared (suc k) m n
-unfolding squared iter
-squared_front zero n m = refl
-squared_front (suc k) n m = ap (λ x. mat_mul x x n) (squared_front k n m)
-
-pub squared_none : (m : List Float) (n : ℕ) → m ≡ squared (2 * 0) m n
-unfolding squared iter
-squared_none m n = refl
-
-pub squared_end : (n k c : ℕ) (o p : List Float) → k ≡ c → p ≡ squared (2 * k) o n → p ≡ squared (2 * c) o n
-squared_end n k c o p h e = rw h at e
-
-pub pair_step : (n k : ℕ) (o p q r : List Float) → q ≡ mat_mul p p n → r ≡ mat_mul q q n → p ≡ squared (2 * k) o n → r ≡ squared (2 * (k + 1)) o n
-unfolding squared iter
-pair_step n k o p q r u v e =
-    let s : 2 * (k + 1) ≡ suc (suc (2 * k)) = omega arith in
-    rw (s, v, u, e)
-
-pub even_end : (c n : ℕ) (x y : List Float) → c % 2 ≡ 0 → y ≡ squared (2 * (c / 2)) x n → y ≡ squared c x n
-even_end c n x y h e = let s : 2 * (c / 2) ≡ c = omega arith in rw s at e
-
-pub odd_end : (c n : ℕ) (x y z : List Float) → (c % 2 ≡ 0 → ⊥) → y ≡ mat_mul x x n → z ≡ squared (2 * (c / 2)) y n → z ≡ squared c x n
-odd_end c n x y z h u e =
-    let s : suc (2 * (c / 2)) ≡ c = omega arith in
-    rw u at e ∙ squared_front (2 * (c / 2)) n x ∙ rw s

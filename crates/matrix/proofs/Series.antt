@@ -1,5 +1,5 @@
 -- One term divided and added, and the loop that adds terms until one is small. Assumes nothing.
-use Rattle.std.proofs.Common.{ℕ, zero, suc, ◌+◌, ◌-◌, ◌*◌, ◌/◌, ◌%◌, ◌<◌, ◌≤◌, ◌≡◌, refl, sym, ap, ◌∙◌, Bool, true, false, List, arith, length, Float}
+use Rattle.std.proofs.Common.{ℕ, zero, suc, ◌+◌, ◌-◌, ◌<◌, ◌≤◌, ◌≡◌, refl, sym, ap, ◌∙◌, Bool, true, false, List, arith, length, Float}
 use Rattle.std.proofs.Math.Numerals.{add-one}
 use Rattle.std.proofs.Math.Nat.{le_refl, le_trans}
 use Rattle.std.specs.Float.Ieee.{binary64, le, of_int}
@@ -12,7 +12,6 @@ use Rattle.float.specs.Arith.{◌⊕◌, ◌⊗◌, ◌⊘◌, zero+, one, epsil
 use Rattle.float.proofs.Sums.{most_step, most_end, most_ext}
 use Rattle.matrix.specs.Matrix.{identity, mat_mul, div_all, add_all, max_abs, power, next_term, small, series, taylor, scaled, squared}
 use Rattle.matrix.specs.Calls.{Added, Turned, Summed, Ready, Worked}
-use Rattle.matrix.proofs.Products.{even_end, odd_end}
 
 -- ---- a term divided and added
 module _ (t₀ s₀ : List Float) (d : Float) (t s : List Float) (p : ℕ) (et : t ≡ stores (λ q x. x ⊘ d) 0 p t₀) (es : s ≡ stores (λ q x. x ⊕ t₀ ! q ⊘ d) 0 p s₀) where
@@ -121,8 +120,5 @@ scaled_is m a c d h e = rw h at e
 pub few_terms : {m o : List Float} {n c : ℕ} (a : List Float) → Ready m o n c → a ≡ scaled m c → (taylor a n).terms ≤ 15
 few_terms a r e = rw e r.stops
 
-pub exp_even : (m a x y : List Float) (c n t : ℕ) → a ≡ scaled m c → Summed a n x t → c % 2 ≡ 0 → y ≡ squared (2 * (c / 2)) x n → Worked m n c a y t
-exp_even m a x y c n t e u h d = record { divided = e; output = rw (← e, ← u.whole) (even_end c n x y h d); number = rw (← e) u.number }
-
-pub exp_odd : (m a x y z : List Float) (c n t : ℕ) → a ≡ scaled m c → Summed a n x t → (c % 2 ≡ 0 → ⊥) → y ≡ mat_mul x x n → z ≡ squared (2 * (c / 2)) y n → Worked m n c a z t
-exp_odd m a x y z c n t e u h v d = record { divided = e; output = rw (← e, ← u.whole) (odd_end c n x y z h v d); number = rw (← e) u.number }
+pub worked : (m a y : List Float) (c n t : ℕ) → a ≡ scaled m c → t ≡ (taylor a n).terms → y ≡ squared c (taylor a n).sum n → Worked m n c a y t
+worked m a y c n t e u v = record { divided = e; output = rw (← e) v; number = rw (← e) u }

@@ -1,5 +1,5 @@
 -- What the code's steps hand on, and what matrix_exp promises. Definitions only.
-use Rattle.std.specs.Prelude.{ℕ, ◌*◌, ◌%◌, ◌≤◌, ◌≡◌, Bool, true, false, cond, List, Float, Option, MatchOption, IfSome, length, take, drop}
+use Rattle.std.specs.Prelude.{ℕ, ◌*◌, ◌-◌, ◌%◌, ◌≤◌, ◌≡◌, Bool, true, false, cond, List, Float, Option, MatchOption, IfSome, eqb, length, take, drop}
 use Rattle.loops.specs.Loop.{iter, tab, ◌!◌}
 use Rattle.float.specs.Arith.{◌⊕◌, ◌⊗◌, zero+}
 use Rattle.matrix.specs.declared.Reach.{Reach}
@@ -40,6 +40,11 @@ pub record Turned (a sum t : List Float) (k n : ℕ) (term' sum' : List Float) (
 pub record Summed (a : List Float) (n : ℕ) (sum : List Float) (terms : ℕ) : Type 0 where
   pub whole : sum ≡ (taylor a n).sum
   pub number : terms ≡ (taylor a n).terms
+
+-- m squared s times between two arrays that trade their parts each round: the result stands in the first if s is even, otherwise in the second; from s = 1 the other holds m squared s - 1 times
+pub record Traded (s : ℕ) (m : List Float) (n : ℕ) (first second : List Float) : Type 0 where
+  pub result : cond (eqb (s % 2) 0) first second ≡ squared s m n
+  pub other : 1 ≤ s → cond (eqb (s % 2) 0) second first ≡ squared (s - 1) m n
 
 -- what is raised: a matrix of size n, room for the output, and a number of squarings by which the series stops in time
 pub record Ready (m out : List Float) (n count : ℕ) : Type 0 where

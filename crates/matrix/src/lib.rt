@@ -8,7 +8,7 @@ ghost use Rattle.loops.specs.Loop.{tab, ◌!◌};
 ghost use Rattle.float.specs.Arith.{◌⊕◌, ◌⊗◌, zero+, limit, abs, larger, sum_of};
 ghost use Rattle.matrix.specs.Matrix.{at, identity, mat_mul, power, squarings, div_all, taylor, squared};
 ghost use Rattle.matrix.specs.Vector.{mat_vec};
-ghost use Rattle.matrix.specs.Calls.{row, products, Started, Normed, Added, Turned, Summed, Ready, Worked, Filled};
+ghost use Rattle.matrix.specs.Calls.{row, products, Started, Normed, Added, Turned, Summed, Traded, Ready, Worked, Filled};
 
 mod dimension;
 
@@ -305,23 +305,47 @@ fn taylor(a: &[f64], sum: &mut [f64], even: &mut [f64], odd: &mut [f64], n: usiz
 
 // ---- step 5: the squarings
 
-// m squared 2 * pairs times, by way of other.
-// Kept: the turns are only counted, and nothing is made of their numbers.
-fn square_pairs(m: &mut [f64], other: &mut [f64], pairs: u32, n: usize)
+// The matrix in first, squared count times. Each round squares from one array into the other, and they trade their parts: the result stands
+// in first if count is even, otherwise in second.
+// Kept: the round's number says whose turn it is; of two references that are exchanged in a loop the proof no longer knows which array is which.
+pub fn square_rounds(first: &mut [f64], second: &mut [f64], count: u32, n: usize)
     requires n_bound { n ≤ 20 }
-    requires m_len { (length m.old ≡ n * n) × (length other.old ≡ n * n) }
-    ensures { m.new ≡ squared (2 * pairs) m.old n }
+    requires first_len { (length first.old ≡ n * n) × (length second.old ≡ n * n) }
+    ensures traded { Traded count first.old n first.new second.new }
+    ensures none { count ≡ 0 → second.new ≡ second.old }
 {
-    for _ in 0..pairs {
-        mat_mul(m, m, other, n);
-        mat_mul(other, other, m, n);
+    for round in 0..count {
+        if round % 2 == 0 {
+            mat_mul(first, first, second, n);
+        } else {
+            mat_mul(second, second, first, n);
+        }
     }
 }
 
 // ---- the five together
 
-// The exponential over lent room, and the number of its terms. The sum is built where an even number of
-// squarings ends in out.
+// The series of a divided matrix, built in first and squared count times; the number of its terms.
+fn taylor_squared(
+    a: &[f64],
+    first: &mut [f64],
+    even: &mut [f64],
+    second: &mut [f64],
+    count: u32,
+    n: usize,
+) -> u32
+    requires n_bound { n ≤ 20 }
+    requires a_len { (length a.now ≡ n * n) × (length first.old ≡ n * n) × (length even.old ≡ n * n) × (length second.old ≡ n * n) }
+    requires stops { (taylor a.now n).terms ≤ 15 }
+    ensures number { result ≡ (taylor a.now n).terms }
+    ensures traded { Traded count (taylor a.now n).sum n first.new second.new }
+{
+    let terms = taylor(a, first, even, second, n);
+    square_rounds(first, second, count, n);
+    terms
+}
+
+// The exponential over lent room, and the number of its terms. The sum is built in that array from which the squarings end in out.
 // Kept: what the three hand on is no struct: its ghost field would be Ready, which no longer holds once m is divided.
 fn exp_into(
     m: &mut [f64],
@@ -337,14 +361,10 @@ fn exp_into(
 {
     div_all(m, scale.divisor);
     if scale.count % 2 == 0 {
-        let terms = taylor(m, out, even, odd, n);
-        square_pairs(out, odd, scale.count / 2, n);
-        return terms;
+        taylor_squared(m, out, even, odd, scale.count, n)
+    } else {
+        taylor_squared(m, odd, even, out, scale.count, n)
     }
-    let terms = taylor(m, odd, even, out, n);
-    mat_mul(odd, odd, out, n);
-    square_pairs(out, odd, scale.count / 2, n);
-    terms
 }
 
 // Room for matrices of up to ROOM entries.

@@ -1,15 +1,20 @@
--- `matrix::exp_into` meets its contract: with an even number of squarings the sum is built in out, else in odd, and squared once into out. Assumes nothing.
-use Rattle.matrix.proofs.Series.{scaled_is, few_terms, exp_even, exp_odd}
+-- `matrix::exp_into` meets its contract: with an even number of squarings the sum is built in out, else in odd, and its squarings end in out. Assumes nothing.
+use Rattle.matrix.proofs.Series.{scaled_is, few_terms, worked}
+use Rattle.matrix.proofs.Squarings.{even_result, odd_result}
 use Rattle.matrix.proofs.exp_into.Goals as goal
 
-pub taylor-terms-requires-clause-stops : goal.taylor-terms-requires-clause-stops
-taylor-terms-requires-clause-stops c = few_terms _ c.requires.ready (scaled_is _ _ _ _ c.args.scale.power c.div_all.ensures)
+pub taylor_squared-requires-clause-stops : goal.taylor_squared-requires-clause-stops
+taylor_squared-requires-clause-stops c = few_terms _ c.requires.ready (scaled_is _ _ _ _ c.args.scale.power c.div_all.ensures)
+
+pub taylor_squared-requires-else-scale-eq0-clause-stops : goal.taylor_squared-requires-else-scale-eq0-clause-stops
+taylor_squared-requires-else-scale-eq0-clause-stops c = few_terms _ c.requires.ready (scaled_is _ _ _ _ c.args.scale.power c.div_all.ensures)
 
 pub returns-then-scale-eq0 : goal.returns-then-scale-eq0
-returns-then-scale-eq0 c = exp_even _ _ _ _ _ _ _ (scaled_is _ _ _ _ c.args.scale.power c.div_all.ensures) c.taylor-terms.ensures c.if-scale-eq0.true c.square_pairs.ensures
+returns-then-scale-eq0 c =
+    let r = c.taylor_squared.ensures in
+    worked _ _ _ _ _ _ (scaled_is _ _ _ _ c.args.scale.power c.div_all.ensures) r.number (even_result _ _ _ _ _ r.traded c.if-scale-eq0.true)
 
-pub taylor-terms-requires-2-clause-stops : goal.taylor-terms-requires-2-clause-stops
-taylor-terms-requires-2-clause-stops c = few_terms _ c.requires.ready (scaled_is _ _ _ _ c.args.scale.power c.div_all.ensures)
-
-pub returns : goal.returns
-returns c = exp_odd _ _ _ _ _ _ _ _ (scaled_is _ _ _ _ c.args.scale.power c.div_all.ensures) c.taylor-terms-2.ensures c.if-scale-eq0.false c.mat_mul.ensures c.square_pairs-2.ensures
+pub returns-else-scale-eq0 : goal.returns-else-scale-eq0
+returns-else-scale-eq0 c =
+    let r = c.taylor_squared-else-scale-eq0.ensures in
+    worked _ _ _ _ _ _ (scaled_is _ _ _ _ c.args.scale.power c.div_all.ensures) r.number (odd_result _ _ _ _ _ r.traded c.if-scale-eq0.false)

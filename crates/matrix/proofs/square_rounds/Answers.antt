@@ -1,0 +1,21 @@
+-- `matrix::square_rounds` meets its contract: after each round the two arrays have traded their parts once more. Assumes nothing.
+use Rattle.std.proofs.Common.{◌≡◌, arith, refl}
+use Rattle.matrix.proofs.Squarings.{traded_none, even_round, odd_round}
+use Rattle.matrix.proofs.square_rounds.Goals.{then-round-eq0, else-round-eq0}
+use Rattle.matrix.proofs.square_rounds.Goals as goal
+
+pub loop-round-init : goal.loop-round-init
+loop-round-init c = (traded_none _ _ _, λ h. refl)
+
+pub loop-round-preserved : goal.loop-round-preserved
+loop-round-preserved c =
+    elim c.if-round-eq0.branch [
+      | then-round-eq0 w ↦ (rw (w.first-is, w.second-is) (even_round _ _ _ _ _ c.loop-round.invariant.0 _ w.if-round-eq0.true w.mat_mul.ensures), λ h. absurd (omega arith))
+      | else-round-eq0 w ↦ (rw (w.first-is, w.second-is) (odd_round _ _ _ _ _ c.loop-round.invariant.0 _ w.if-round-eq0.false w.mat_mul-else-round-eq0.ensures), λ h. absurd (omega arith))
+    ]
+
+pub returns-clause-traded : goal.returns-clause-traded
+returns-clause-traded c = let e : c.loop-round.round ≡ c.args.count = omega arith in rw e at c.loop-round.invariant.0
+
+pub returns-clause-none : goal.returns-clause-none
+returns-clause-none c h = c.loop-round.invariant.1 (omega arith)
