@@ -31,6 +31,7 @@ pub mod refused;
 pub mod script;
 pub mod search;
 pub mod sonde;
+pub mod squaring_list;
 pub mod table;
 pub mod tolerances;
 pub mod watch;

@@ -1,30 +1,35 @@
-//! The list for the matrix exponential.
+//! The list for matrices.
 //!
-//! A record is a size and the matrix row by row; its reply is 1, the terms, the squarings and the exponential, or 0 where
-//! document 01 refuses.
+//! A record is a kind and a size, and what the kind has. An exponential has the matrix row by row; its reply is 1, the terms,
+//! the squarings and the exponential, or 0 where document 01 refuses. Squarings have their number and two arrays; the reply
+//! is both arrays after them.
 
 use crate::bits::{above, power_of_two};
 use crate::bytes::put_doubles;
 use crate::lists::List;
 use crate::random::Random;
-use crate::{compared, watch};
+use crate::squaring_list::{self, Squarings};
+use crate::{compared, pass, watch};
 
-struct Matrix {
-    size: usize,
-    entries: Vec<f64>,
+const EXPONENTIAL: u8 = 0;
+const SQUARINGS: u8 = 1;
+
+pub struct Matrix {
+    pub size: usize,
+    pub entries: Vec<f64>,
 }
 
 impl Matrix {
-    fn zero(size: usize) -> Self {
+    pub fn zero(size: usize) -> Self {
         Self::filled(size, || 0.0)
     }
 
-    fn filled(size: usize, mut entry: impl FnMut() -> f64) -> Self {
+    pub fn filled(size: usize, mut entry: impl FnMut() -> f64) -> Self {
         let entries = (0..size * size).map(|_| entry()).collect();
         Self { size, entries }
     }
 
-    fn with(mut self, row: usize, column: usize, entry: f64) -> Self {
+    pub fn with(mut self, row: usize, column: usize, entry: f64) -> Self {
         self.entries[row * self.size + column] = entry;
         self
     }
@@ -69,7 +74,7 @@ fn of_size(size: usize, random: &mut Random) -> Vec<Matrix> {
     let last = size - 1;
     let mut found = vec![
         Matrix::zero(size),
-        Matrix::filled(size, || random.pick(&[0.0, -0.0])),
+        signed_zeros(size, random),
         Matrix::filled(size, || random.unit() * 1e-3),
         Matrix::filled(size, || random.unit()),
         // The diagonal of a stiff cable, softly coupled.
@@ -91,6 +96,10 @@ fn of_size(size: usize, random: &mut Random) -> Vec<Matrix> {
     found
 }
 
+pub fn signed_zeros(size: usize, random: &mut Random) -> Matrix {
+    Matrix::filled(size, || random.pick(&[0.0, -0.0]))
+}
+
 fn stiff(size: usize, random: &mut Random) -> Matrix {
     let mut matrix = Matrix::filled(size, || random.unit());
     for i in 0..size {
@@ -100,7 +109,7 @@ fn stiff(size: usize, random: &mut Random) -> Matrix {
     matrix
 }
 
-fn nilpotent(size: usize, random: &mut Random) -> Matrix {
+pub fn nilpotent(size: usize, random: &mut Random) -> Matrix {
     let mut matrix = Matrix::zero(size);
     for row in 0..size {
         for column in row + 1..size {
@@ -130,21 +139,28 @@ fn augmented(random: &mut Random) -> Vec<Matrix> {
     found
 }
 
+/// The matrices that are exponentiated.
+fn matrices(random: &mut Random) -> Vec<Matrix> {
+    let mut found = one_by_one();
+    found.extend(row_sums(random));
+    for size in 1..=20 {
+        found.extend(of_size(size, random));
+    }
+    found.extend(augmented(random));
+    found
+}
+
 pub fn list() -> List {
     let mut random = Random::new(30);
-    let mut matrices = one_by_one();
-    matrices.extend(row_sums(&mut random));
-    for size in 1..=20 {
-        matrices.extend(of_size(size, &mut random));
-    }
-    matrices.extend(augmented(&mut random));
+    let matrices = matrices(&mut random);
+    let squared = squaring_list::squarings(&mut random);
     let mut input = Vec::new();
     let mut output = Vec::new();
     let mut refused = 0;
     let mut not_finite = 0;
     let (mut terms, mut squarings) = (0, 0);
     for Matrix { size, entries } in &matrices {
-        input.push(*size as u8);
+        input.extend([EXPONENTIAL, *size as u8]);
         put_doubles(&mut input, entries);
         if watch::admits(entries, *size) {
             let watch = watch::start();
@@ -152,7 +168,7 @@ pub fn list() -> List {
             let noted = watch.only();
             output.extend([1, noted.terms as u8, noted.squarings as u8]);
             put_doubles(&mut output, &exponential);
-            not_finite += usize::from(!crate::pass::all_finite(&exponential));
+            not_finite += usize::from(!pass::all_finite(&exponential));
             terms = noted.terms.max(terms);
             squarings = noted.squarings.max(squarings);
         } else {
@@ -160,10 +176,21 @@ pub fn list() -> List {
             refused += 1;
         }
     }
+    let mut squared_not_finite = 0;
+    for Squarings { count, first, second } in &squared {
+        input.extend([SQUARINGS, first.size as u8, *count]);
+        put_doubles(&mut input, &first.entries);
+        put_doubles(&mut input, &second.entries);
+        let [first, second] = squaring_list::traded(&first.entries, &second.entries, *count, first.size);
+        put_doubles(&mut output, &first);
+        put_doubles(&mut output, &second);
+        squared_not_finite += usize::from(!(pass::all_finite(&first) && pass::all_finite(&second)));
+    }
     let summary = format!(
         "{} matrices, {refused} refused, {not_finite} with entries that are not finite, \
-         up to {terms} terms and {squarings} squarings",
-        matrices.len()
+         up to {terms} terms and {squarings} squarings; {} squared, {squared_not_finite} with entries that are not finite",
+        matrices.len(),
+        squared.len()
     );
     List { name: "matrix_run", input, output, summary }
 }

@@ -5,6 +5,7 @@ use oracle::bytes::Reader;
 use oracle::field::Field;
 use oracle::pass::{self, ETD2, Outcome, STIFFEST, Start};
 use oracle::random::Random;
+use oracle::squaring_list::traded;
 use oracle::watch::{self, Exponential, products};
 use oracle::{OdeProblem, SolveError, SolverStats, compared, lists, published};
 use std::cell::Cell;
@@ -320,23 +321,120 @@ fn the_list_of_passes_has_their_counts() {
     assert!(candidates > 800, "{candidates}");
 }
 
-#[test]
-fn the_list_of_matrices_has_their_counts() {
+/// An exponential of the list; where it is not refused, its terms, its squarings and itself.
+struct Raised {
+    size: usize,
+    matrix: Vec<f64>,
+    filled: Option<((u32, u32), Vec<f64>)>,
+}
+
+/// Squarings of the list: both arrays before and after so many rounds.
+struct Squared {
+    size: usize,
+    count: u8,
+    before: [Vec<f64>; 2],
+    after: [Vec<f64>; 2],
+}
+
+impl Squared {
+    fn finite(&self) -> bool {
+        self.after.iter().all(|array| pass::all_finite(array))
+    }
+
+    /// Whether the two arrays, each finite and not zero, can be told from one another.
+    fn lasts(&self) -> bool {
+        let zero = self.after.iter().any(|array| array.iter().all(|entry| *entry == 0.0));
+        self.finite() && !zero && !same(&self.after[0], &self.after[1])
+    }
+}
+
+fn list_of_matrices() -> (Vec<Raised>, Vec<Squared>) {
     let list = lists::all().into_iter().find(|list| list.name == "matrix_run").unwrap();
     let mut input = Reader::new(&list.input);
     let mut output = Reader::new(&list.output);
-    let mut filled = 0;
-    while let Some(size) = input.byte().map(usize::from) {
-        let matrix = input.doubles(size * size).unwrap();
-        if output.byte() == Some(0) {
-            continue;
+    let (mut raised, mut squared) = (Vec::new(), Vec::new());
+    while let Some(kind) = input.byte() {
+        let size = usize::from(input.byte().unwrap());
+        let array = |reader: &mut Reader| reader.doubles(size * size).unwrap();
+        match kind {
+            0 => {
+                let matrix = array(&mut input);
+                let filled = (output.byte() != Some(0)).then(|| {
+                    let told = (output.byte().unwrap().into(), output.byte().unwrap().into());
+                    (told, array(&mut output))
+                });
+                raised.push(Raised { size, matrix, filled });
+            }
+            1 => {
+                let count = input.byte().unwrap();
+                let before = [array(&mut input), array(&mut input)];
+                let after = [array(&mut output), array(&mut output)];
+                squared.push(Squared { size, count, before, after });
+            }
+            other => panic!("a record of kind {other}"),
         }
-        let told = (output.byte().unwrap().into(), output.byte().unwrap().into());
-        let (expected, exponential) = worked_out_beside(&matrix, size);
-        assert_eq!(told, expected);
-        assert!(same(&output.doubles(size * size).unwrap(), &exponential));
-        filled += 1;
     }
     assert_eq!(output.left(), 0);
+    (raised, squared)
+}
+
+#[test]
+fn the_list_of_matrices_has_their_counts() {
+    let mut filled = 0;
+    for raised in list_of_matrices().0 {
+        let Some((told, listed)) = raised.filled else { continue };
+        let (expected, exponential) = worked_out_beside(&raised.matrix, raised.size);
+        assert_eq!(told, expected);
+        assert!(same(&listed, &exponential));
+        filled += 1;
+    }
     assert!(filled > 700, "{filled}");
+}
+
+/// The matrix whose squares are 2, 4, 16, and the shear, whose powers count up.
+#[test]
+fn the_last_two_powers_stand_where_the_rounds_leave_them() {
+    let two = [[2.0, 7.0], [2.0, 4.0], [16.0, 4.0], [16.0, 256.0], [65536.0, 256.0]];
+    for (count, expected) in (0..).zip(two) {
+        assert_eq!(traded(&[2.0], &[7.0], count, 1), expected.map(|entry| vec![entry]), "{count} rounds");
+    }
+    let shear = |by: f64| [1.0, by, 0.0, 1.0];
+    for (count, first, second) in [(0, 0, None), (1, 0, Some(1)), (31, 30, Some(31)), (32, 32, Some(31))] {
+        let second = second.map_or([7.0; 4], |rounds| shear(power_of_two(rounds)));
+        let after = traded(&shear(1.0), &[7.0; 4], count, 2);
+        assert_eq!(after, [shear(power_of_two(first)), second], "{count} rounds");
+    }
+}
+
+/// The oracle puts the last two powers in their places; here they come there round by round.
+#[test]
+fn the_squarings_of_the_list_are_those_of_arrays_that_trade_their_parts() {
+    for Squared { size, count, before, after } in list_of_matrices().1 {
+        let mut arrays = before;
+        for from in [0, 1].into_iter().cycle().take(count.into()) {
+            arrays[1 - from] = compared::mat_mul(&arrays[from], &arrays[from], size);
+        }
+        assert!(
+            arrays.iter().zip(&after).all(|(traded, listed)| same(traded, listed)),
+            "{count} of size {size}"
+        );
+    }
+}
+
+#[test]
+fn the_squarings_of_the_list_have_every_size_and_every_count() {
+    let squared = list_of_matrices().1;
+    let some = |wanted: &dyn Fn(&Squared) -> bool| squared.iter().any(wanted);
+    for count in 0..=32 {
+        assert!(some(&|record| record.count == count && record.lasts()), "{count} rounds");
+    }
+    for size in 1..=20 {
+        // None, the fewest and the most of either parity.
+        for count in [0, 1, 2, 31, 32] {
+            let listed = |record: &Squared| record.size == size && record.count == count && record.lasts();
+            assert!(some(&listed), "{count} rounds of size {size}");
+        }
+    }
+    let not_finite = squared.iter().filter(|record| !record.finite()).count();
+    assert!(not_finite > 100, "{not_finite}");
 }
