@@ -1,47 +1,73 @@
-// Times matrix_exp of the published Rust and of the port on the same matrices, and checks that the
-// results are the same to the bit.
+// Times matrix_exp of the published Rust and of the port on the same matrices, and with `--cfg before` an earlier state of the port too;
+// checks that the results are the same to the bit.
 use std::hint::black_box;
-use std::time::Instant;
+
+mod rounds;
 
 #[allow(dead_code)]
 mod published {
     include!(env!("PUBLISHED"));
 }
 
-extern "C" {
-    fn vunchrem_exponential(
-        size: u64,
-        m: *const f64,
-        m_len: usize,
-        out: *mut f64,
-        out_len: usize,
-        words: *mut u64,
-        words_len: usize,
-        told: *mut f64,
-        told_len: usize,
-    ) -> u32;
+// Puts the exponential of a matrix of size n into out.
+type Exponential = fn(m: &[f64], out: &mut Vec<f64>, n: usize);
+
+fn rust(m: &[f64], out: &mut Vec<f64>, n: usize) {
+    *out = published::matrix_exp(m, n);
 }
 
-// Whether the port filled out with the exponential of m (outcome 5).
-fn exponential(m: &[f64], out: &mut [f64], n: usize) -> bool {
-    let mut words = [0u64; 5];
-    let mut told = [0.0];
-    // SAFETY: each pointer and length is that of an array or slice that is lent for the call; no two overlap.
-    let code = unsafe {
-        vunchrem_exponential(
-            n as u64,
-            m.as_ptr(),
-            m.len(),
-            out.as_mut_ptr(),
-            out.len(),
-            words.as_mut_ptr(),
-            words.len(),
-            told.as_mut_ptr(),
-            told.len(),
-        )
+// The exponential of the port that is linked under this symbol.
+macro_rules! exponential {
+    ($name:ident, $symbol:ident) => {
+        fn $name(m: &[f64], out: &mut Vec<f64>, n: usize) {
+            extern "C" {
+                fn $symbol(
+                    size: u64,
+                    m: *const f64,
+                    m_len: usize,
+                    out: *mut f64,
+                    out_len: usize,
+                    words: *mut u64,
+                    words_len: usize,
+                    told: *mut f64,
+                    told_len: usize,
+                ) -> u32;
+            }
+            let mut words = [0u64; 5];
+            let mut told = [0.0];
+            // SAFETY: each pointer and length is that of an array, slice or vector that is lent for the call; no two overlap.
+            let code = unsafe {
+                $symbol(
+                    n as u64,
+                    m.as_ptr(),
+                    m.len(),
+                    out.as_mut_ptr(),
+                    out.len(),
+                    words.as_mut_ptr(),
+                    words.len(),
+                    told.as_mut_ptr(),
+                    told.len(),
+                )
+            };
+            // Outcome 5: out is filled.
+            assert!(code == 0 && words[0] == 5);
+        }
     };
-    code == 0 && words[0] == 5
 }
+
+exponential!(port, vunchrem_exponential);
+#[cfg(before)]
+exponential!(before, vunchrem_exponential_before);
+
+const COUNT: usize = 2 + cfg!(before) as usize;
+
+// What is timed, in turns.
+const TIMED: [(&str, Exponential); COUNT] = [
+    ("Rust", rust),
+    #[cfg(before)]
+    ("before", before),
+    ("port", port),
+];
 
 // A matrix with entries of both signs whose largest row sum is about `sum`.
 fn matrix(n: usize, sum: f64) -> Vec<f64> {
@@ -57,48 +83,52 @@ fn matrix(n: usize, sum: f64) -> Vec<f64> {
         .collect()
 }
 
-// Nanoseconds for one call, the least of several rounds.
-fn time(mut call: impl FnMut()) -> f64 {
-    let mut count = 1u32;
-    loop {
-        let start = Instant::now();
-        (0..count).for_each(|_| call());
-        if start.elapsed().as_micros() > 2000 {
-            break;
-        }
-        count *= 2;
+// The bits of an exponential; every NaN has the same.
+fn bits(exponential: Exponential, m: &[f64], n: usize) -> Vec<u64> {
+    let mut out = vec![0.0; n * n];
+    exponential(m, &mut out, n);
+    out.iter().map(|x| if x.is_nan() { f64::NAN.to_bits() } else { x.to_bits() }).collect()
+}
+
+// Nanoseconds for one call of each.
+fn times(m: &[f64], n: usize) -> [f64; COUNT] {
+    let mut calls = TIMED.map(|(_, exponential)| {
+        let mut out = vec![0.0; n * n];
+        move || exponential(black_box(m), black_box(&mut out), black_box(n))
+    });
+    rounds::times(calls.each_mut().map(|call| call as &mut dyn FnMut()))
+}
+
+// The times, the port's over the Rust's, and of an earlier state its own over the Rust's and the port's over it.
+fn row(times: [f64; COUNT]) -> String {
+    let (rust, port) = (times[0], times[COUNT - 1]);
+    let mut cells: Vec<String> = times.iter().map(|time| format!("{time:12.0}")).collect();
+    cells.push(format!("{:7.2}", port / rust));
+    if let [rust, before, port] = times[..] {
+        cells.push(format!("{:11.2} {:11.2}", before / rust, port / before));
     }
-    (0..15)
-        .map(|_| {
-            let start = Instant::now();
-            (0..count).for_each(|_| call());
-            start.elapsed().as_nanos() as f64 / count as f64
-        })
-        .fold(f64::INFINITY, f64::min)
+    cells.join(" ")
+}
+
+// The names over such a row.
+fn header() -> String {
+    let mut cells: Vec<String> =
+        TIMED.iter().map(|(name, _)| format!("{:>12}", format!("{name} ns"))).collect();
+    cells.push(format!("{:>7}", "ratio"));
+    if cfg!(before) {
+        cells.push(format!("{:>11} {:>11}", "before/Rust", "port/before"));
+    }
+    cells.join(" ")
 }
 
 fn main() {
-    println!("size  row sums      Rust ns      port ns   ratio");
+    println!("size  row sums {}", header());
     for (name, sum) in [("soft", 0.4), ("stiff", 1000.0)] {
         for n in [1, 2, 3, 4, 6, 8, 12, 16, 20] {
             let m = matrix(n, sum);
-            let mut out = vec![0.0; n * n];
-            assert!(exponential(&m, &mut out, n));
-            let same = published::matrix_exp(&m, n)
-                .iter()
-                .zip(&out)
-                .all(|(a, b)| a.to_bits() == b.to_bits() || (a.is_nan() && b.is_nan()));
-            let rust = time(|| {
-                black_box(published::matrix_exp(black_box(&m), black_box(n)));
-            });
-            let port = time(|| {
-                black_box(exponential(black_box(&m), black_box(&mut out), black_box(n)));
-            });
-            println!(
-                "{n:4}  {name:8} {rust:12.0} {port:12.0} {:7.2}{}",
-                port / rust,
-                if same { "" } else { "  DIFFERS" }
-            );
+            let results = TIMED.map(|(_, exponential)| bits(exponential, &m, n));
+            let same = results.iter().all(|result| *result == results[0]);
+            println!("{n:4}  {name:8} {}{}", row(times(&m, n)), if same { "" } else { "  DIFFERS" });
         }
     }
 }

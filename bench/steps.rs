@@ -2,8 +2,9 @@
 //! accept) of the core's session, and the same work of the published Rust, on the same right-hand side. The means come last.
 use oracle::{OdeProblem, SolveError, SolveOptions, SolverStats, published};
 use std::hint::black_box;
-use std::time::Instant;
 use vunchrem::{Progress, Scheme, Session};
+
+mod rounds;
 
 const CASES: [(&str, f64); 2] = [("soft", 1.0), ("stiff", 1_000.0)];
 const SIZES: [usize; 4] = [1, 3, 8, 16];
@@ -17,30 +18,6 @@ fn chain(stiffness: f64, u: &[f64], du: &mut [f64]) {
         let right = if i + 1 < n { u[i + 1] } else { 0.0 };
         du[i] = stiffness * (0.5 * left - u[i] + 0.25 * right) + 0.1 * u[i] * u[i];
     }
-}
-
-/// Nanoseconds for one call, over a round of them.
-fn round(call: &mut impl FnMut(), count: u32) -> f64 {
-    let start = Instant::now();
-    (0..count).for_each(|_| call());
-    start.elapsed().as_nanos() as f64 / f64::from(count)
-}
-
-/// How many calls make a round of a millisecond or more.
-fn count(call: &mut impl FnMut()) -> u32 {
-    let mut count = 1;
-    while round(call, count) * f64::from(count) < 1e6 {
-        count *= 2;
-    }
-    count
-}
-
-/// Nanoseconds for one call of the Rust and of the core, the least of several rounds. They take turns, so that a slow spell meets both.
-fn times(mut rust: impl FnMut(), mut core: impl FnMut()) -> (f64, f64) {
-    let counts = (count(&mut rust), count(&mut core));
-    (0..25).fold((f64::INFINITY, f64::INFINITY), |least, _| {
-        (least.0.min(round(&mut rust, counts.0)), least.1.min(round(&mut core, counts.1)))
-    })
 }
 
 struct Case {
@@ -129,21 +106,21 @@ fn main() {
                 };
                 session.drop_attempt().unwrap();
                 let same = candidate.iter().zip(&pass(&c.jacobian).candidate).all(|(a, b)| a.to_bits() == b.to_bits());
-                let (rust_pass, core_pass) = times(
-                    || {
+                let [rust_pass, core_pass] = rounds::times([
+                    &mut || {
                         black_box(pass(&c.jacobian));
                     },
-                    || {
+                    &mut || {
                         let first = session.begin(c.step, Some(&c.jacobian)).unwrap();
                         black_box(answer(&mut session, first, c.stiffness));
                         session.drop_attempt().unwrap();
                     },
-                );
+                ]);
                 let options = SolveOptions::tolerances(TOLERANCE, TOLERANCE);
                 let mut jacobian = vec![0.0; n * n];
                 let mut derivative = vec![0.0; n];
-                let (rust_step, core_step) = times(
-                    || {
+                let [rust_step, core_step] = rounds::times([
+                    &mut || {
                         let stats = &mut SolverStats::default();
                         published::compute_jacobian(&problem, &c.state, 0.0, &c.f0, &mut jacobian, stats).unwrap();
                         let done = pass(&jacobian);
@@ -151,11 +128,11 @@ fn main() {
                         chain(stiffness, &done.candidate, &mut derivative);
                         black_box(&derivative);
                     },
-                    || {
+                    &mut || {
                         let mut session = Session::open(scheme, 0.0, &c.state, &c.f0, TOLERANCE, TOLERANCE).unwrap();
                         black_box(session.step(c.step, |_: f64, u: &[f64], du: &mut [f64]| chain(stiffness, u, du)).unwrap());
                     },
-                );
+                ]);
                 let cell = Cell { label: format!("{}, {name}", published::name(number)), n, pass: core_pass / rust_pass, step: core_step / rust_step };
                 println!(
                     "{:<12} {:>2}  {:>10.2} {:>10.2} {:>6.2}   {:>10.2} {:>10.2} {:>6.2}{}",
