@@ -5,6 +5,16 @@ use std::hint::black_box;
 mod rounds;
 
 #[allow(dead_code)]
+#[path = "../host/src/raw.rs"]
+mod raw;
+
+// The same with the earlier library's symbol, as bench/matrix writes it.
+#[cfg(before)]
+#[allow(dead_code)]
+#[path = "../target/bench/raw_before.rs"]
+mod raw_before;
+
+#[allow(dead_code)]
 mod published {
     include!(env!("PUBLISHED"));
 }
@@ -16,28 +26,15 @@ fn rust(m: &[f64], out: &mut Vec<f64>, n: usize) {
     *out = published::matrix_exp(m, n);
 }
 
-// The exponential of the port that is linked under this symbol.
+// The exponential of the port, by this function of a library.
 macro_rules! exponential {
-    ($name:ident, $symbol:ident) => {
+    ($name:ident, $call:path) => {
         fn $name(m: &[f64], out: &mut Vec<f64>, n: usize) {
-            extern "C" {
-                fn $symbol(
-                    size: u64,
-                    m: *const f64,
-                    m_len: usize,
-                    out: *mut f64,
-                    out_len: usize,
-                    words: *mut u64,
-                    words_len: usize,
-                    told: *mut f64,
-                    told_len: usize,
-                ) -> u32;
-            }
             let mut words = [0u64; 5];
             let mut told = [0.0];
             // SAFETY: each pointer and length is that of an array, slice or vector that is lent for the call; no two overlap.
             let code = unsafe {
-                $symbol(
+                $call(
                     n as u64,
                     m.as_ptr(),
                     m.len(),
@@ -55,9 +52,9 @@ macro_rules! exponential {
     };
 }
 
-exponential!(port, vunchrem_exponential);
+exponential!(port, raw::vunchrem_exponential);
 #[cfg(before)]
-exponential!(before, vunchrem_exponential_before);
+exponential!(before, raw_before::vunchrem_exponential_before);
 
 const COUNT: usize = 2 + cfg!(before) as usize;
 
