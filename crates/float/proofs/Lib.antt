@@ -18,3 +18,4 @@ pub mod RootExamples
 pub mod Order
 pub mod Plus
 pub mod Same
+pub mod Inverse

@@ -65,7 +65,7 @@ round-zero : (s : Bool) → round binary64 s 0 1 ≡ fin s 0 (pos 0)
 unfolding round units size span climb odd
 round-zero s = refl
 
-round_back : (s : Bool) (m : ℕ) (e : ℤ) → T (fits binary64 (fin s m e)) → round binary64 s (m * up e) (down e) ≡ fin s m e
+pub round_back : (s : Bool) (m : ℕ) (e : ℤ) → T (fits binary64 (fin s m e)) → round binary64 s (m * up e) (down e) ≡ fin s m e
 unfolding fits
 round_back s zero e f = rw (zero_exponent e (eqb→eq (up e * down e) 1 f)) (round-zero s)
 round_back s (suc m) e f =
@@ -84,7 +84,7 @@ abs_sign nan = refl
 abs_sign (inf s) = refl
 abs_sign (fin s m e) = refl
 
-plus_sign : (x : Float) → T (plus x) → sgn x ≡ false
+pub plus_sign : (x : Float) → T (plus x) → sgn x ≡ false
 unfolding plus
 plus_sign nan h = refl
 plus_sign (inf true) h = absurd h
@@ -92,7 +92,7 @@ plus_sign (inf false) h = refl
 plus_sign (fin true m e) h = absurd h
 plus_sign (fin false m e) h = refl
 
-add_sign : (x y : Float) → sgn x ≡ false → sgn y ≡ false → sgn (x ⊕ y) ≡ false
+pub add_sign : (x y : Float) → sgn x ≡ false → sgn y ≡ false → sgn (x ⊕ y) ≡ false
 unfolding add sum
 add_sign nan y h k = refl
 add_sign (inf true) y h k = absurd (true≢false h)
@@ -115,7 +115,7 @@ plus_nothing (fin true m e) f h = absurd (true≢false h)
 plus_nothing (fin false m e) f h = rw (mul-one, zero-mul, add-zero, mul-one) (round_back false m e f)
 
 -- ---- sums of numbers with no minus sign
-sum_sign : (n : ℕ) (f : ℕ → Float) → ((j : ℕ) → sgn (f j) ≡ false) → sgn (sum_of n f) ≡ false
+pub sum_sign : (n : ℕ) (f : ℕ → Float) → ((j : ℕ) → sgn (f j) ≡ false) → sgn (sum_of n f) ≡ false
 unfolding sum_of of_bits of_fields odd
 sum_sign zero f h = refl
 sum_sign (suc zero) f h = h 0

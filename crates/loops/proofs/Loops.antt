@@ -5,7 +5,8 @@ use Rattle.std.proofs.Math.Numerals.{add-one}
 use Rattle.std.proofs.Math.Nat.{add-zero, add-suc, suc-add, zero-add, not-suc-le-zero}
 use Rattle.std.proofs.Math.Decide.{ℕ_discrete}
 use Rattle.std.specs.Float.Ieee.{nan}
-use Rattle.std.proofs.Math.ListN.{set, length-append, length-drop, get_or-eq_default}
+use Rattle.std.proofs.lemmas.List.{get_or-drop}
+use Rattle.std.proofs.Math.ListN.{set, replicate, length-append, length-drop, get_or-eq_default}
 use Rattle.std.proofs.Math.Seq.{set_at, append_snoc, drop-cons, drop-length, get_or-append-add}
 use Rattle.loops.specs.Loop.{iter, every, from, tab, fill, stores, ◌!◌}
 use Rattle.loops.proofs.Bools.{both_true}
@@ -136,6 +137,23 @@ fill_call d f i o x y e h k = rw k (fill_step d f i o x e h)
 pub fill_all : {A : Type 0} (f : ℕ → A) (i : ℕ) (o x : List A) → x ≡ fill i f o → i ≡ length o → x ≡ tab (length o) f
 unfolding fill
 fill_all f i o x e h = rw (h, drop-length, append-nil) at e
+
+-- the next place is still as it was
+pub fill_old : {A : Type 0} (d : A) (f : ℕ → A) (i : ℕ) (o x : List A) → x ≡ fill i f o → get_or x i d ≡ get_or o i d
+unfolding fill
+fill_old d f i o x e =
+    let h : i ≡ length (tab i f) + 0 = rw length-tab (sym (add-zero i)) in
+    rw e (ap (λ k. get_or (tab i f ++ drop i o) k d) h ∙ get_or-append-add (tab i f) (drop i o) 0 d ∙ get_or-drop i o 0 d ∙ ap (λ k. get_or o k d) (add-zero i))
+
+-- ---- equal entries
+from_same : {A : Type 0} (n i : ℕ) (x : A) → replicate n x ≡ from n i (λ j. x)
+unfolding from
+from_same zero i x = refl
+from_same (suc n) i x = ap (λ l. x ∷ l) (from_same n (suc i) x)
+
+pub tab_same : {A : Type 0} (n : ℕ) (x : A) → replicate n x ≡ tab n (λ j. x)
+unfolding tab
+tab_same n x = from_same n 0 x
 
 -- ---- stores
 pub stores_none : (g : ℕ → Float → Float) (b : ℕ) (o : List Float) → o ≡ stores g b 0 o

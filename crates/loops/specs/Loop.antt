@@ -25,6 +25,10 @@ tab n f = from n 0 f
 unfoldable pub mat : ℕ → (ℕ → ℕ → Float) → List Float
 mat n f = tab (n * n) (λ p. f (p / n) (p % n))
 
+-- r rows of c places each, row by row
+unfoldable pub grid : ℕ → ℕ → (ℕ → ℕ → Float) → List Float
+grid r c f = tab (r * c) (λ p. f (p / c) (p % c))
+
 -- o with its first n entries by f
 unfoldable pub fill : {A : Type 0} → ℕ → (ℕ → A) → List A → List A
 fill n f o = tab n f ++ drop n o
