@@ -16,6 +16,7 @@ use Rattle.matrix.specs.Matrix.{at, identity, mat_mul, div_all, add_all, max_abs
 use Rattle.matrix.specs.Matrix.{next_term, term_at, small, Series, series, taylor, squared, exponential}
 use Rattle.matrix.specs.Claims.{Admitted, StopsAt15, AtMost47, terms_added, CountsMade, LimitUnmet, Reaches15, LeastScale, Scales, TopRow}
 use Rattle.matrix.proofs.Powers.{norm-limit, squarings-least, squarings-enough, squarings-room}
+use Rattle.matrix.proofs.Series.{added_step}
 use Rattle.matrix.proofs.RowSums.{On64, mag64, unit64}
 use Rattle.matrix.proofs.Terms.{Rows, quotient, total_ap}
 use Rattle.matrix.proofs.Stop.{Pos64, larger_pos, zero_pos, fifteen, with, stop_here, go_on}
@@ -89,15 +90,18 @@ norm_ge : (m : List Float) (n : ℕ) → Admitted m n → Pos64 (norm m n) × ((
 unfolding norm
 norm_ge m n ok = most_ge (row_sum m n) n (λ j hj. row_pos n m j ok hj)
 
-scaled_rows : (m : List Float) (n : ℕ) → Admitted m n → Rows n (scaled m (squarings (norm m n))) β64
+pub scaled_rows : (m : List Float) (n : ℕ) → Admitted m n → Rows n (scaled m (squarings (norm m n))) β64
 scaled_rows m n ok i hi =
     let g = norm_ge m n ok in
     let x = norm m n in
     let h = enough→units x (squarings x) g.0 (squarings-enough x (norm-limit m n ok.rows)) in
     one_scaled n (squarings x) m i ok hi (le_trans (mul-le-mul_right 2 (g.1 i hi)) h)
 
-by_15 : (m : List Float) (n : ℕ) → Admitted m n → let a = scaled m (squarings (norm m n)) in ((taylor a n).terms ≤ 15) × (taylor a n ≡ series 15 a n (identity n) (identity n) 1)
-by_15 m n ok = fifteen n β64 (scaled m (squarings (norm m n))) ok.size (div-mul-le_self (unit64 * 530) 1024) (scaled_rows m n ok)
+pub β64_le : β64 * 1024 ≤ unit64 * 530
+β64_le = div-mul-le_self (unit64 * 530) 1024
+
+pub by_15 : (m : List Float) (n : ℕ) → Admitted m n → let a = scaled m (squarings (norm m n)) in ((taylor a n).terms ≤ 15) × (taylor a n ≡ series 15 a n (identity n) (identity n) 1)
+by_15 m n ok = fifteen n β64 (scaled m (squarings (norm m n))) ok.size β64_le (scaled_rows m n ok)
 
 -- ---- THE CLAIMS
 pub stops_at_15 : StopsAt15
@@ -116,11 +120,6 @@ at_most_47 m n ok =
     let t = stops_at_15 m n ok in
     let s = (least-scale m n ok).0 in
     (t, s, omega (arith, t, s))
-
--- one term more
-added_step : (a : List Float) (n k : ℕ) → with a n k (terms_added a n k) ≡ terms_added a n (suc k)
-unfolding terms_added iter
-added_step a n k = refl
 
 -- where the series ends before its room does, it has added its last term and all before it
 added_all : (a : List Float) (n d k : ℕ) (r : List Float) → r ≡ terms_added a n k → (series d a n (term_at a n k) r (suc k)).terms ≤ k + d

@@ -1,5 +1,6 @@
 pub mod Vectors
 pub mod Products
+pub mod Framed
 pub mod Squarings
 pub mod Powers
 pub mod Series
@@ -7,5 +8,10 @@ pub mod RowSums
 pub mod Terms
 pub mod Stop
 pub mod Scaling
+pub mod StopTest
+pub mod Zeros
+pub mod FirstTerm
+pub mod Begun
 pub mod Claims
+pub mod Calm
 pub mod Whole

@@ -1,15 +1,23 @@
 -- Powers of two as doubles, and the least one that is enough. Assumes nothing.
-use Rattle.std.proofs.Common.{ℕ, zero, suc, ◌+◌, ◌*◌, ◌^◌, ◌<◌, ◌≤◌, ◌≡◌, refl, sym, ap, ◌∙◌, Bool, true, false, not, ◌&&◌, cond, List, pow-suc, add-suc, suc-add, mul_right_comm, add-zero, add-one, below_more, arith, ltb, leb, negsuc, Float, lt-ltb, le-ltb, le-leb}
+use Rattle.std.proofs.Common.{ℕ, zero, suc, ◌+◌, ◌*◌, ◌^◌, ◌<◌, ◌≤◌, ◌≡◌, refl, sym, ap, ◌∙◌, Bool, true, false, not, ◌&&◌, cond, List, pow-suc, add-suc, suc-add, mul_right_comm, add-zero, add-one, below_more, arith, ltb, leb, pos, negsuc, Float, lt-ltb, le-ltb, le-leb}
 use Rattle.std.proofs.Math.Decide.{ℕ_discrete, dec_le, dec_lt}
-use Rattle.std.specs.Float.Ieee.{nan, inf, fin, binary64, lt, le, eq, is_nan, mul, round, size, units, odd, span, climb, of_bits, of_fields, up, down}
+use Rattle.std.specs.Float.Ieee.{nan, inf, fin, binary64, lt, le, eq, is_nan, mul, of_int, round, size, units, odd, span, climb, of_bits, of_fields, up, down}
 use lib.Count.{count_trailing_zeros}
 use borrow.Author.Tests.{not-true, not-false, lt-leb}
 use Rattle.loops.proofs.Bools.{both_true}
 use Rattle.loops.specs.Loop.{every, from, tab, ◌!◌}
 use Rattle.loops.proofs.Loops.{tab_at}
-use Rattle.float.specs.Arith.{◌⊗◌, two, limit, finite, larger, zero+, most}
+use Rattle.float.specs.Arith.{◌⊗◌, ◌⊘◌, half, one, two, limit, finite, larger, zero+, most}
 use Rattle.float.proofs.Order.{lt_not_le}
+use Rattle.float.proofs.Inverse.{by_one, by_inverse}
 use Rattle.matrix.specs.Matrix.{enough, least, squarings, power, norm, admitted, row_sum}
+use Rattle.matrix.specs.Calls.{inverse_power}
+
+abbrev pub quarter : Float
+quarter = of_bits binary64 0x3fd0_0000_0000_0000
+
+abbrev pub eighth : Float
+eighth = of_bits binary64 0x3fc0_0000_0000_0000
 
 -- half of 2 ^ s
 unfoldable pub half_of : ℕ → Float
@@ -18,12 +26,17 @@ half_of (suc k) = power k
 
 -- ---- each is twice the one before it
 
-table : tab 34 (λ s. half_of s ⊗ two) ≡ tab 34 (λ s. half_of (suc s))
+-- what is the same in two tables
+by_table : (n : ℕ) (f g : ℕ → Float) → tab n f ≡ tab n g → (s : ℕ) → s < n → f s ≡ g s
+by_table n f g e s h = sym (tab_at n f s h) ∙ ap (λ l. l ! s) e ∙ tab_at n g s h
+
+table : tab 33 (λ s. half_of s ⊗ two) ≡ tab 33 (λ s. half_of (suc s))
 unfolding tab from half_of mul round size units odd span climb count_trailing_zeros of_bits of_fields
 table = refl
 
-half_step : (s : ℕ) → s < 34 → half_of s ⊗ two ≡ half_of (suc s)
-half_step s h = sym (tab_at 34 (λ s. half_of s ⊗ two) s h) ∙ ap (λ l. l ! s) table ∙ tab_at 34 (λ s. half_of (suc s)) s h
+inverse_table : tab 33 (λ s. inverse_power s ⊗ half) ≡ tab 33 (λ s. inverse_power (suc s))
+unfolding tab from inverse_power mul round size units odd span climb count_trailing_zeros of_bits of_fields
+inverse_table = refl
 
 -- ---- the test of the code is the test of the definition
 
@@ -90,14 +103,36 @@ pub squarings_is : (x h : Float) (s : ℕ) → s ≤ 32 → h ≡ half_of s → 
 unfolding squarings
 squarings_is x h s k e l b = sym (least_is 32 0 s (enough x) (omega arith) (omega arith) b (not-false _ (sym (test s x) ∙ rw e at l)))
 
--- ---- 2 ^ s
-
-pub twice_half : (h : Float) (s : ℕ) → s ≤ 32 → h ≡ half_of s → h ⊗ two ≡ power s
-unfolding half_of
-twice_half h s l e = rw e (half_step s (omega arith))
+-- ---- 2 ^ s and 2 ^ -s
 
 pub half_next : (h : Float) (s : ℕ) → s < 32 → h ≡ half_of s → h ⊗ two ≡ half_of (s + 1)
-half_next h s l e = rw (e, add-one) (half_step s (omega arith))
+half_next h s l e = rw (e, add-one) (by_table 33 _ _ table s (omega arith))
+
+pub inverse-one : one ≡ inverse_power 0
+unfolding inverse_power of_bits of_fields odd count_trailing_zeros
+inverse-one = refl
+
+pub inverse_next : (f : Float) (s : ℕ) → s < 32 → f ≡ inverse_power s → f ⊗ half ≡ inverse_power (s + 1)
+inverse_next f s l e = rw (e, add-one) (by_table 33 _ _ inverse_table s (omega arith))
+
+-- a power of two divides as its inverse multiplies
+pub by_power : (x : Float) (s : ℕ) → x ⊗ inverse_power s ≡ x ⊘ power s
+unfolding inverse_power
+by_power x zero = sym (by_one x)
+by_power x (suc k) = sym (by_inverse x k)
+
+-- f is 2 ^ -s, and k is 2 ^ s
+pub record Inverse (f : Float) (k s : ℕ) : Type 0 where
+  pub factor : f ≡ inverse_power s
+  pub divisor : of_int binary64 (pos k) ≡ power s
+
+pub wholes : Inverse half 2 1 × Inverse quarter 4 2 × Inverse eighth 8 3
+unfolding inverse_power of_int round size units odd span climb count_trailing_zeros of_bits of_fields
+wholes = (record { factor = refl; divisor = refl }, record { factor = refl; divisor = refl }, record { factor = refl; divisor = refl })
+
+-- so k divides as f multiplies
+pub by_whole : {f : Float} {k s : ℕ} → Inverse f k s → (x y : Float) → y ≡ x ⊗ f → y ≡ x ⊘ of_int binary64 (pos k)
+by_whole w x y e = rw (w.factor, by_power, ← w.divisor) at e
 
 -- ---- what the definition says: it is the least that is enough, for every number that is not above 2 ^ 31
 

@@ -5,6 +5,7 @@ use lib.Count.{count_trailing_zeros}
 use Rattle.std.specs.Float.Ieee.{binary64, emax, low, unlike, of_bits, of_fields, odd}
 use lib.Ieee.Exact.{HasValue}
 use Rattle.float.specs.Arith.{◌⊕◌, ◌⊗◌, ◌⊘◌, zero+}
+use Rattle.matrix.specs.Products.{dot}
 use Rattle.loops.specs.Loop.{iter}
 use Rattle.float.proofs.Round.{half}
 use Rattle.float.proofs.Mag.{Near, mag, On, equals_on, equals_mag}
@@ -19,10 +20,6 @@ mag64 x = mag binary64 x
 
 abbrev pub unit64 : ℕ
 unit64 = 2 ^ low binary64
-
--- the first k products of l and r, summed from +0.0
-unfoldable pub dot : ℕ → (ℕ → Float) → (ℕ → Float) → Float
-dot k l r = iter k (λ m x. x ⊕ l m ⊗ r m) zero+
 
 -- ---- a sum of n numbers: E bounds each rounding's error
 

@@ -10,11 +10,11 @@ use lib.Ieee.Positive.{num, den, den_pos, positive, above, above_of_le, own_valu
 use Rattle.loops.proofs.Places.{size_some}
 use Rattle.loops.specs.Loop.{◌!◌}
 use Rattle.float.specs.Arith.{◌⊗◌, zero+, one, epsilon, abs, larger, most}
-use Rattle.matrix.specs.Matrix.{at, max_abs, small, identity, next_term, add_all, series, taylor, term_at}
+use Rattle.matrix.specs.Matrix.{at, max_abs, small, identity, add_all, series, taylor, term_at}
 use Rattle.float.proofs.Mag.{mag}
 use Rattle.float.proofs.Total.{entry_le}
 use lib.Ieee.Bits.{is_true}
-use Rattle.matrix.proofs.Series.{series_stop, series_go}
+use Rattle.matrix.proofs.Series.{series_stop, series_go, next_is}
 use Rattle.matrix.proofs.RowSums.{On64, mag64, unit64, zero_mag}
 use Rattle.matrix.proofs.Terms.{Rows, bd, bd_15, term_rows, term_length}
 
@@ -66,7 +66,7 @@ unfolding of_bits of_fields odd count_trailing_zeros
 zero_pos = subst (λ (z : ℕ). HasValue zero+ false z unit64) (sym zero_mag) (refl, refl)
 
 -- ---- the largest magnitude among the first k of a list
-most-le : (M : ℕ) (x : Float) (f : ℕ → Float) (k : ℕ) → Pos64 x → mag64 x ≤ M → ((p : ℕ) → p < k → On64 (f p) × (mag64 (f p) ≤ M))
+pub most-le : (M : ℕ) (x : Float) (f : ℕ → Float) (k : ℕ) → Pos64 x → mag64 x ≤ M → ((p : ℕ) → p < k → On64 (f p) × (mag64 (f p) ≤ M))
     → Pos64 (most k (λ p. abs (f p)) x) × (mag64 (most k (λ p. abs (f p)) x) ≤ M)
 unfolding most
 most-le M x f zero h l all = (h, l)
@@ -77,7 +77,7 @@ most-le M x f (suc k) h l all =
     (p.0, p.3 M ih.1 (le_trans (le_of_eq (abs_mag (f k))) a.1))
 
 -- ---- 1 at least: an infinity too
-abbrev Big : Float → Type 0
+abbrev pub Big : Float → Type 0
 Big nan = ⊥
 Big (inf true) = ⊥
 Big (inf false) = Unit {0}
@@ -100,12 +100,12 @@ larger_big (fin false n d) nan h = h
 larger_big (fin false n d) (inf t) h = tt
 larger_big (fin false n d) (fin t n' d') h = big_pick (ltb (n * up d * down d') (n' * up d' * down d)) n d n' d' h (ltb→lt (n * up d * down d') (n' * up d' * down d))
 
-most_big : (x : Float) (f : ℕ → Float) (k : ℕ) → Big x → Big (most k (λ p. abs (f p)) x)
+pub most_big : (x : Float) (f : ℕ → Float) (k : ℕ) → Big x → Big (most k (λ p. abs (f p)) x)
 unfolding most
 most_big x f zero h = h
 most_big x f (suc k) h = larger_big (most k (λ p. abs (f p)) x) (f k) (most_big x f k h)
 
-one_big : Big one
+pub one_big : Big one
 unfolding of_bits of_fields odd count_trailing_zeros
 one_big = le_refl 1
 
@@ -135,7 +135,7 @@ le_above x z w a c b c' C C' B p hx hz l h = go w h (above_of_le z w pz h)
 eps_value : HasValue (round binary64 false 1 (2 ^ 52)) false 1 (2 ^ 52)
 eps_value = round_exact binary64 false 1 (2 ^ 52) 1 1022 (pow_pos 52) (lit≤ tt) (lit≤ tt) refl
 
-under_eps : (x y : Float) → Pos64 x → mag64 x ≤ 2 ^ 1022 → Big y → T (le x (epsilon ⊗ y))
+pub under_eps : (x y : Float) → Pos64 x → mag64 x ≤ 2 ^ 1022 → Big y → T (le x (epsilon ⊗ y))
 unfolding mul of_bits of_fields odd count_trailing_zeros
 under_eps x nan p l h = absurd h
 under_eps x (inf true) p l h = absurd h
@@ -178,10 +178,6 @@ stops_at_15 n β b n20 β-le rows r =
 -- whatever the sum, the series stops at term k
 abbrev Passes : List Float → ℕ → ℕ → Type 0
 Passes b n k = (r : List Float) → T (small (term_at b n k) r)
-
-next_is : (b : List Float) (n k : ℕ) → next_term (term_at b n k) b n (suc k) ≡ term_at b n (suc k)
-unfolding term_at
-next_is b n k = refl
 
 -- the sum with one term more, and the test at which the series stops or goes on
 abbrev pub with : List Float → ℕ → ℕ → List Float → List Float

@@ -11,7 +11,8 @@ use Rattle.loops.proofs.Places.{mat_at, length-mat, row_fits}
 use Rattle.matrix.specs.Matrix.{at, identity, mat_mul, div_all, next_term, term_at}
 use Rattle.float.proofs.Mag.{equals_on, equals_mag}
 use Rattle.float.proofs.Total.{total, total_mono}
-use Rattle.matrix.proofs.RowSums.{dot, On64, mag64, unit64, zero_on, zero_mag, row_on, row_shrinks}
+use Rattle.matrix.proofs.RowSums.{On64, mag64, unit64, zero_on, zero_mag, row_on, row_shrinks}
+use Rattle.matrix.specs.Products.{dot}
 
 -- ---- entries
 mat_mul_entry : (n i j : ℕ) (l r : List Float) → i < n → j < n → at (mat_mul l r n) n i j ≡ dot n (at l n i) (λ k. at r n k j)
@@ -136,7 +137,7 @@ unfolding term_at bd
 term_rows n β b n20 β-le rb zero h = identity_rows n
 term_rows n β b n20 β-le rb (suc k) h = step n k (bd k) β b (term_at b n k) n20 h (bd_le k) β-le rb (term_rows n β b n20 β-le rb k (le_trans (le-suc k) h))
 
-next_length : (t b : List Float) (n k : ℕ) → length (next_term t b n k) ≡ n * n
+pub next_length : (t b : List Float) (n k : ℕ) → length (next_term t b n k) ≡ n * n
 unfolding next_term div_all
 next_length t b n k = length-tab (length (mat_mul t b n)) _ ∙ mat_mul-length t b n
 

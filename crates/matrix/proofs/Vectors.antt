@@ -37,6 +37,10 @@ vec-clear n f i h l =
     let s : n + (i - n) ≡ i = omega arith in
     rw (e, get_or-append-add, get_or-drop, s) (zeros_at i l)
 
+pub fill_at : (n : ℕ) (f : ℕ → Float) (o : List Float) (i : ℕ) → i < n → fill n f o ! i ≡ f i
+unfolding fill
+fill_at n f o i h = let k : i < length (tab n f) = rw length-tab h in get_or-append (tab n f) (drop n o) nan i k ∙ tab_at n f i h
+
 pub vec_at : (n : ℕ) (f : ℕ → Float) (i : ℕ) → i < n → vec n f ! i ≡ f i
-unfolding vec fill
-vec_at n f i h = let k : i < length (tab n f) = rw length-tab h in get_or-append (tab n f) (drop n zeros) nan i k ∙ tab_at n f i h
+unfolding vec
+vec_at n f i h = fill_at n f zeros i h

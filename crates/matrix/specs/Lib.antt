@@ -1,4 +1,5 @@
 pub mod Matrix
 pub mod Vector
+pub mod Products
 pub mod Calls
 pub mod Claims

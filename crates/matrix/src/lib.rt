@@ -2,123 +2,74 @@
 // A matrix of size n is a slice of n * n entries, row by row.
 #![tactic(auto)]
 
-ghost use Rattle.std.specs.Prelude.{◌≡◌, ◌+◌, ◌*◌, ◌≤◌, ◌<◌, true, false, length};
-ghost use Rattle.std.specs.Float.Ieee.{le, is_nan};
+ghost use Rattle.std.specs.Prelude.{◌≡◌, ◌+◌, ◌*◌, ◌≤◌, ◌<◌, true, false, pos, Float, length};
+ghost use Rattle.std.specs.Float.{binary64};
+ghost use Rattle.std.specs.Float.Ieee.{le, of_int};
 ghost use Rattle.loops.specs.Loop.{tab, ◌!◌};
-ghost use Rattle.float.specs.Arith.{◌⊕◌, ◌⊗◌, zero+, limit, abs, larger, sum_of};
-ghost use Rattle.matrix.specs.Matrix.{at, identity, mat_mul, power, squarings, div_all, taylor, squared};
+ghost use Rattle.float.specs.Arith.{◌⊕◌, ◌⊗◌, ◌⊘◌, zero+, one, two, limit, abs, sum_of};
+ghost use Rattle.matrix.specs.Matrix.{at, identity, mat_mul, squarings, div_all, add_all, max_abs, next_term, small, taylor, squared};
 ghost use Rattle.matrix.specs.Vector.{mat_vec};
-ghost use Rattle.matrix.specs.Calls.{row, products, Started, Normed, Added, Turned, Summed, Traded, Ready, Worked, Filled};
+ghost use Rattle.matrix.specs.Calls.{inverse_power, positive, Normed, outside, above, Mapped, Begun, Added, Turned, Summed, Traded, Calm, Ready, Worked, Filled};
 
 mod dimension;
+mod kernel;
 
 pub use dimension::{Dimension, vector};
+pub use kernel::{Rows, product};
 
 // 2 ^ 31, the largest row sum that is exponentiated.
 pub const LIMIT: f64 = 2147483648.0;
 
-// Where row i of a matrix of size n begins.
-// Kept: n ≤ 20, here and below, is said of a number: lent matrices have their lengths said of n itself, and where they are handed in as a Square products take a tenth more instructions.
-fn row_start(i: usize, n: usize) -> usize
-    requires { (i < n) × (n ≤ 20) }
-    ensures { (result ≡ i * n) × (result + n ≤ n * n) }
-{
-    i * n
-}
-
-// A matrix that is read: its entries, row by row, and its size.
-// Kept: of any size and with no law, for the products; that of methods has a Dimension and the law of its length.
-#[derive(Clone, Copy)]
-struct Square<'a> {
-    entries: &'a [f64],
-    size: usize,
-    ghost small: { size ≤ 20 },
-    ghost full: { length entries.now ≡ size * size },
-}
-
-impl<'a> Square<'a> {
-    // Row i.
-    fn row(&self, i: usize) -> &'a [f64]
-        requires { i < self.now.size }
-        ensures value { result.now ≡ row self.now.entries.now self.now.size i }
-        ensures len { length result.now ≡ self.now.size }
-    {
-        let start = row_start(i, self.size);
-        &self.entries[start..start + self.size]
-    }
-}
-
 // ---- the identity and the products
 
 // The identity of size n.
-// Kept, as are the rows of mat_mul: over an iter_mut with step_by, zip or chunks an invariant cannot name what was written.
+// Kept: over an iter_mut with step_by, zip or chunks an invariant cannot name what was written.
 pub fn identity(out: &mut [f64], n: usize)
     requires { (n ≤ 20) × (length out.old ≡ n * n) }
     ensures { out.new ≡ identity n }
 {
     out.fill(0.0);
     for i in 0..n {
-        let start = row_start(i, n);
-        out[start + i] = 1.0;
+        out[kernel::span(i, i, 1, n, n)] = 1.0;
     }
 }
 
-// The first product of each entry of a row: 0.0 + value * right[j].
-// Kept: three turns of a product, of one and of two products at a time; in one function the second and what it is added to would be flags, asked at each entry.
-fn set_one(out: &mut [f64], value: f64, right: &[f64])
-    requires { length right.now ≡ length out.old }
-    ensures { out.new ≡ tab (length out.old) (λ j. zero+ ⊕ value ⊗ right.now ! j) }
+// left times right, n rows of n places, whose sums all stay in registers.
+fn small_product<const N: usize>(left: &[f64], right: &[f64], out: &mut [f64])
+    requires small { N ≤ 20 }
+    requires len { (length left.now ≡ N * N) × (length right.now ≡ N * N) × (length out.old ≡ N * N) }
+    ensures { out.new ≡ mat_mul left.now right.now N }
 {
-    for (j, x) in out.iter_mut().enumerate() {
-        *x = 0.0 + value * right[j];
-    }
+    let left = Rows {
+        entries: left,
+        rows: N,
+        width: N,
+    };
+    let right = Rows {
+        entries: right,
+        rows: N,
+        width: N,
+    };
+    kernel::put::<N, N>(&left, &right, 0, out, N);
 }
 
-// The first two products of each entry, added one after the other.
-fn set_two(out: &mut [f64], value: f64, right: &[f64], second: f64, next: &[f64])
-    requires { (length right.now ≡ length out.old) × (length next.now ≡ length out.old) }
-    ensures { out.new ≡ tab (length out.old) (λ j. zero+ ⊕ value ⊗ right.now ! j ⊕ second ⊗ next.now ! j) }
+// The same of any size.
+fn large_product(left: &[f64], right: &[f64], out: &mut [f64], n: usize)
+    requires small { n ≤ 20 }
+    requires len { (length left.now ≡ n * n) × (length right.now ≡ n * n) × (length out.old ≡ n * n) }
+    ensures { out.new ≡ mat_mul left.now right.now n }
 {
-    for (j, x) in out.iter_mut().enumerate() {
-        *x = 0.0 + value * right[j] + second * next[j];
-    }
-}
-
-// The next two products of a row, added one after the other.
-fn add_two(out: &mut [f64], value: f64, right: &[f64], second: f64, next: &[f64])
-    requires { (length right.now ≡ length out.old) × (length next.now ≡ length out.old) }
-    ensures { out.new ≡ tab (length out.old) (λ j. out.old ! j ⊕ value ⊗ right.now ! j ⊕ second ⊗ next.now ! j) }
-{
-    for (j, x) in out.iter_mut().enumerate() {
-        *x = *x + value * right[j] + second * next[j];
-    }
-}
-
-// The first product of each entry of a row, or the first two, so that the rest comes in pairs; how
-// many they are.
-fn first_products(left: &[f64], right: &Square, out: &mut [f64]) -> usize
-    requires { (0 < right.now.size) × (length left.now ≡ right.now.size) × (length out.old ≡ right.now.size) }
-    ensures { Started left.now right.now.entries.now right.now.size result out.new }
-{
-    if right.size % 2 == 1 {
-        set_one(out, left[0], right.row(0));
-        return 1;
-    }
-    set_two(out, left[0], right.row(0), left[1], right.row(1));
-    2
-}
-
-// A row of a matrix times right. Each entry adds its products in the order of k, as the Rust does.
-// Kept: by step_by the products of sizes 5 to 20 take one to three in a hundred more instructions.
-fn product_row(left: &[f64], right: &Square, out: &mut [f64])
-    requires { (0 < right.now.size) × (length left.now ≡ right.now.size) × (length out.old ≡ right.now.size) }
-    ensures { out.new ≡ tab right.now.size (products right.now.size left.now right.now.entries.now right.now.size) }
-{
-    let mut k = first_products(left, right, out);
-    while k < right.size {
-        add_two(out, left[k], right.row(k), left[k + 1], right.row(k + 1));
-        k += 2;
-    }
+    let left = Rows {
+        entries: left,
+        rows: n,
+        width: n,
+    };
+    let right = Rows {
+        entries: right,
+        rows: n,
+        width: n,
+    };
+    product(&left, &right, n, out, n);
 }
 
 // out = left * right, each entry summed from +0.0.
@@ -127,17 +78,12 @@ pub fn mat_mul(left: &[f64], right: &[f64], out: &mut [f64], n: usize)
     requires left_len { (length left.now ≡ n * n) × (length right.now ≡ n * n) × (length out.old ≡ n * n) }
     ensures { out.new ≡ mat_mul left.now right.now n }
 {
-    let left = Square {
-        entries: left,
-        size: n,
-    };
-    let right = Square {
-        entries: right,
-        size: n,
-    };
-    for i in 0..n {
-        let start = row_start(i, n);
-        product_row(left.row(i), &right, &mut out[start..start + n]);
+    match n {
+        1 => small_product::<1>(left, right, out),
+        2 => small_product::<2>(left, right, out),
+        3 => small_product::<3>(left, right, out),
+        4 => small_product::<4>(left, right, out),
+        _ => large_product(left, right, out, n),
     }
 }
 
@@ -160,9 +106,10 @@ pub fn mat_vec(m: &[f64], v: [f64; 16], n: usize) -> [f64; 16]
     requires { (n ≤ 16) × (length m.now ≡ n * n) }
     ensures { result ≡ mat_vec n m.now v }
 {
-    let m = Square {
+    let m = Rows {
         entries: m,
-        size: n,
+        rows: n,
+        width: n,
     };
     let mut out = [0.0; 16];
     for i in 0..n {
@@ -183,14 +130,15 @@ fn row_sum(row: &[f64]) -> f64
         .fold(float::abs(row[0]), |sum, x| sum + float::abs(*x))
 }
 
-impl<'a> Square<'a> {
+impl Rows<'_> {
     // The largest row sum; None where a row sum is not finite or is above 2^31.
     // Kept: a try_fold would have the same lines in a closure, and an Option around the larger of two.
-    fn norm(&self) -> Option<f64>
-        ensures { Normed self.now.entries.now self.now.size result }
+    pub fn norm(&self) -> Option<f64>
+        requires { self.now.rows ≤ self.now.width }
+        ensures { Normed self.now.rows self.now.entries.now self.now.width result }
     {
         let mut norm = 0.0;
-        for i in 0..self.size {
+        for i in 0..self.rows {
             let sum = row_sum(self.row(i));
             if !(float::finite(sum) & (sum <= LIMIT)) {
                 return None;
@@ -203,100 +151,195 @@ impl<'a> Square<'a> {
 
 // ---- step 2: how often to square
 
-// A number of squarings, and 2 to that power, by which the matrix is divided.
+// A number of squarings, and the inverse of 2 to that power, by which the matrix is multiplied.
 #[derive(Clone, Copy)]
-struct Scale {
-    count: u32,
-    divisor: f64,
-    ghost power: { divisor ≡ power count },
+pub struct Scale {
+    pub count: u32,
+    pub factor: f64,
+    ghost inverse: { factor ≡ inverse_power count },
 }
 
 impl Scale {
     // The least count with 2^count >= 2 * norm.
     // Kept: the count is that of the doublings, and to read it from the norm's bits would be no plainer.
-    fn of(norm: f64) -> Scale
+    pub fn of(norm: f64) -> Scale
         requires { le norm limit ≡ true }
         ensures { result.count ≡ squarings norm }
     {
         let mut count = 0;
         let mut half = 0.5;
+        let mut factor = 1.0;
         while half < norm {
             half *= 2.0;
+            factor *= 0.5;
             count += 1;
         }
-        Scale {
-            count,
-            divisor: half * 2.0,
-        }
+        Scale { count, factor }
     }
 }
 
 // ---- steps 3 and 4: the series
 
-// Divides every entry.
-fn div_all(m: &mut [f64], d: f64)
-    ensures { m.new ≡ div_all m.old d }
+// Twice float::EPSILON. A term with an entry above it is not the last, since no entry of the sum is above 2.
+const LARGE: f64 = 4.440892098500626e-16;
+
+// Multiplies every entry: by the inverse of a power of two, which divides by that power.
+#[inline(always)]
+pub fn times_all(m: &mut [f64], factor: f64)
+    ensures { m.new ≡ tab (length m.old) (λ p. m.old ! p ⊗ factor) }
 {
     for x in m.iter_mut() {
-        *x /= d;
+        *x *= factor;
     }
 }
 
-// The larger of a number and x; a NaN is passed over.
-// Kept: float::larger without its test of `big`, which is no NaN; the series asks it twice for each entry.
-fn raise(big: f64, x: f64) -> f64
-    requires { is_nan big ≡ false }
-    ensures { result ≡ larger big x }
+// Makes each entry of the term anew by a rule, and adds it to the sum.
+// Kept: an invariant cannot name what a zip of both writes.
+#[inline(always)]
+fn add_by<F: Fn(f64) -> f64>(term: &mut [f64], sum: &mut [f64], rule: F)
+    requires places { length sum.old ≡ length term.old }
+    requires rule { (x : Float) → F.pre rule x }
+    ensures { (f : Float → Float) → ((x y : Float) → F.post rule x y → y ≡ f x) → Mapped term.old sum.old f term.new sum.new }
 {
-    if big < x { x } else { big }
-}
-
-// Divides the term and adds it to the sum; whether it is small enough to be the last.
-// Kept: an invariant cannot name what a zip of both writes; and the answer, here and of `turn`, is what the series' `if` asks: a ControlFlow would be asked by is_break.
-fn add_term(term: &mut [f64], sum: &mut [f64], d: f64) -> bool
-    requires { length sum.old ≡ length term.old }
-    ensures { Added term.old sum.old d term.new sum.new result }
-{
-    let mut big = 0.0;
-    let mut top = 1.0;
     for p in 0..term.len() {
-        let t = term[p] / d;
-        let s = sum[p] + t;
+        let t = rule(term[p]);
         term[p] = t;
-        sum[p] = s;
-        big = raise(big, float::abs(t));
-        top = raise(top, float::abs(s));
+        sum[p] += t;
     }
-    big <= float::EPSILON * top
+}
+
+// Whether x is above a bound or below its negative.
+// Kept: float::abs compares and chooses three times, and this is asked of every term.
+fn outside(x: f64, bound: f64) -> bool
+    ensures { result ≡ outside bound x }
+{
+    (bound < x) | (x < -bound)
+}
+
+// Whether some entry is above a bound or below its negative.
+fn above(m: &[f64], bound: f64) -> bool
+    ensures { result ≡ above bound m.now }
+{
+    for x in m {
+        if outside(*x, bound) {
+            return true;
+        }
+    }
+    false
+}
+
+// The larger of 1 and the largest magnitude.
+fn largest(m: &[f64]) -> f64
+    ensures { result ≡ max_abs one m.now }
+{
+    let mut big = 1.0;
+    for x in m {
+        big = float::larger(big, float::abs(*x));
+    }
+    big
+}
+
+// Whether the series stops with this term, which the sum holds already. The sum's largest magnitude is between 1 and 2, so it is looked for only
+// where the term's first entry above epsilon is at most twice that.
+#[inline(always)]
+fn is_last(term: &[f64], sum: &[f64]) -> bool
+    requires { le (max_abs one sum.now) two ≡ true }
+    ensures { result ≡ small term.now sum.now }
+{
+    for x in term {
+        if outside(*x, float::EPSILON) {
+            if outside(*x, LARGE) {
+                return false;
+            }
+            return !above(term, float::EPSILON * largest(sum));
+        }
+    }
+    true
+}
+
+// Divides the term by k and adds it to the sum.
+#[inline(always)]
+fn divide_add(term: &mut [f64], sum: &mut [f64], k: u32)
+    requires { length sum.old ≡ length term.old }
+    ensures { Mapped term.old sum.old (λ x. x ⊘ of_int binary64 (pos k)) term.new sum.new }
+{
+    match k {
+        2 => add_by(term, sum, |x| x * 0.5),
+        4 => add_by(term, sum, |x| x * 0.25),
+        8 => add_by(term, sum, |x| x * 0.125),
+        _ => {
+            let divisor = k as f64;
+            add_by(term, sum, |x| x / divisor)
+        }
+    }
+}
+
+// Divides the term by k and adds it to the sum; whether it is small enough to be the last.
+// Kept: the answer, here and of `turn`, is what the series' `if` asks: a ControlFlow would be asked by is_break.
+#[inline(always)]
+pub fn add_term(term: &mut [f64], sum: &mut [f64], k: u32) -> bool
+    requires places { length sum.old ≡ length term.old }
+    requires low { le (max_abs one (add_all sum.old (div_all term.old (of_int binary64 (pos k))))) two ≡ true }
+    ensures { Added term.old sum.old (of_int binary64 (pos k)) term.new sum.new result }
+{
+    divide_add(term, sum, k);
+    is_last(term, sum)
 }
 
 // The k-th term from the last one, into next, and added to the sum; whether the series stops with it.
+// Inlined: called, the series of a matrix of size 1 or 2 takes a tenth more instructions.
+#[inline(always)]
 fn turn(a: &[f64], sum: &mut [f64], last: &[f64], next: &mut [f64], k: u32, n: usize) -> bool
     requires n_bound { n ≤ 20 }
     requires a_len { (length a.now ≡ n * n) × (length sum.old ≡ n * n) × (length last.now ≡ n * n) × (length next.old ≡ n * n) }
+    requires low { le (max_abs one (add_all sum.old (next_term last.now a.now n k))) two ≡ true }
     ensures { Turned a.now sum.old last.now k n next.new sum.new result }
 {
     mat_mul(last, a, next, n);
-    add_term(next, sum, k as f64)
+    add_term(next, sum, k)
+}
+
+// The first term, into term: the matrix itself, where -0.0 becomes +0.0. It is added to the sum; whether it is small enough to be the last.
+#[inline(always)]
+pub fn add_first(a: &[f64], sum: &mut [f64], term: &mut [f64]) -> bool
+    requires places { (length sum.old ≡ length a.now) × (length term.old ≡ length a.now) }
+    requires low { le (max_abs one (add_all sum.old (positive a.now))) two ≡ true }
+    ensures { Begun a.now sum.old term.new sum.new result }
+{
+    term.copy_from_slice(a);
+    add_by(term, sum, |x| 0.0 + x);
+    is_last(term, sum)
+}
+
+// The first term and the identity, into sum; whether the series stops there.
+fn first_term(a: &[f64], sum: &mut [f64], term: &mut [f64], n: usize) -> bool
+    requires n_bound { n ≤ 20 }
+    requires a_len { (length a.now ≡ n * n) × (length sum.old ≡ n * n) × (length term.old ≡ n * n) }
+    requires calm { Calm a.now n }
+    ensures { Turned a.now (identity n) (identity n) 1 n term.new sum.new result }
+{
+    identity(sum, n);
+    add_first(a, sum, term)
 }
 
 // The series of the exponential, into sum, and the number of its last term.
-// Kept: the three others are written, so n goes with them; where they are handed in as a Square the compiler loses n's bound, and products take a tenth more instructions.
+// Kept: the three others are written, so n goes with them; where they are handed in as a struct the compiler loses n's bound, and products take a tenth more instructions.
 fn taylor(a: &[f64], sum: &mut [f64], even: &mut [f64], odd: &mut [f64], n: usize) -> u32
     requires n_bound { n ≤ 20 }
     requires a_len { (length a.now ≡ n * n) × (length sum.old ≡ n * n) × (length even.old ≡ n * n) × (length odd.old ≡ n * n) }
-    requires stops { (taylor a.now n).terms ≤ 15 }
+    requires calm { Calm a.now n }
     ensures { Summed a.now n sum.new result }
 {
-    identity(sum, n);
-    identity(even, n);
-    let mut k: u32 = 1;
+    if first_term(a, sum, odd, n) {
+        return 1;
+    }
+    let mut k: u32 = 2;
     // Kept: a rule of the project has the loop yield the term's number by its break; two terms a turn need no third array.
     loop {
-        if turn(a, sum, even, odd, k, n) {
+        if turn(a, sum, odd, even, k, n) {
             break k;
         }
-        if turn(a, sum, odd, even, k + 1, n) {
+        if turn(a, sum, even, odd, k + 1, n) {
             break k + 1;
         }
         k += 2;
@@ -336,7 +379,7 @@ fn taylor_squared(
 ) -> u32
     requires n_bound { n ≤ 20 }
     requires a_len { (length a.now ≡ n * n) × (length first.old ≡ n * n) × (length even.old ≡ n * n) × (length second.old ≡ n * n) }
-    requires stops { (taylor a.now n).terms ≤ 15 }
+    requires calm { Calm a.now n }
     ensures number { result ≡ (taylor a.now n).terms }
     ensures traded { Traded count (taylor a.now n).sum n first.new second.new }
 {
@@ -359,7 +402,7 @@ fn exp_into(
     requires even_len { (length even.old ≡ n * n) × (length odd.old ≡ n * n) }
     ensures { Worked m.old n scale.count m.new out.new result }
 {
-    div_all(m, scale.divisor);
+    times_all(m, scale.factor);
     if scale.count % 2 == 0 {
         taylor_squared(m, out, even, odd, scale.count, n)
     } else {
@@ -406,9 +449,10 @@ pub fn matrix_exp(m: &mut [f64], out: &mut [f64], n: usize) -> Option<Reach>
     requires m_len { (length m.old ≡ n * n) × (length out.old ≡ n * n) }
     ensures { Filled m.old n m.new out.old out.new result }
 {
-    let a = Square {
+    let a = Rows {
         entries: m,
-        size: n,
+        rows: n,
+        width: n,
     };
     let Some(norm) = a.norm() else {
         return None;

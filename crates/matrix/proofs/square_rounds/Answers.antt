@@ -1,11 +1,11 @@
 -- `matrix::square_rounds` meets its contract: after each round the two arrays have traded their parts once more. Assumes nothing.
 use Rattle.std.proofs.Common.{◌≡◌, arith, refl}
-use Rattle.matrix.proofs.Squarings.{traded_none, even_round, odd_round}
+use Rattle.matrix.proofs.Squarings.{trades_none, even_round, odd_round, traded}
 use Rattle.matrix.proofs.square_rounds.Goals.{then-round-eq0, else-round-eq0}
 use Rattle.matrix.proofs.square_rounds.Goals as goal
 
 pub loop-round-init : goal.loop-round-init
-loop-round-init c = (traded_none _ _ _, λ h. refl)
+loop-round-init c = (trades_none _ _ _, λ h. refl)
 
 pub loop-round-preserved : goal.loop-round-preserved
 loop-round-preserved c =
@@ -15,7 +15,7 @@ loop-round-preserved c =
     ]
 
 pub returns-clause-traded : goal.returns-clause-traded
-returns-clause-traded c = let e : c.loop-round.round ≡ c.args.count = omega arith in rw e at c.loop-round.invariant.0
+returns-clause-traded c = let e : c.loop-round.round ≡ c.args.count = omega arith in rw e at (traded _ _ _ _ _ c.loop-round.invariant.0)
 
 pub returns-clause-none : goal.returns-clause-none
 returns-clause-none c h = c.loop-round.invariant.1 (omega arith)

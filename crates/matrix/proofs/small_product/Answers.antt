@@ -1,0 +1,6 @@
+-- `matrix::small_product` meets its contract. Assumes nothing.
+use Rattle.matrix.proofs.Products.{whole_product}
+use Rattle.matrix.proofs.small_product.Goals as goal
+
+pub returns : goal.returns
+returns g c = whole_product _ _ _ _ _ c.requires.len.2 c.put.ensures
