@@ -30,6 +30,14 @@ is_mat : (n : ℕ) (f : ℕ → ℕ → Float) (l : List Float) → length l ≡
 unfolding mat
 is_mat n f l e h = is_tab (n * n) _ l e (λ p q. rw (div-add-mod' p n) at (h (p / n) (p % n) (row_below p n q) (column_below p n q)))
 
+-- another row than i is before i or not, as before i + 1
+pub other_row : (r i : ℕ) → r ≢ i → ltb r i ≡ ltb r (i + 1)
+other_row r i s = go (dec_lt r i)
+  where
+    go : Dec (r < i) → ltb r i ≡ ltb r (i + 1)
+    go (yes t) = lt-ltb r i t ∙ sym (lt-ltb r (i + 1) (omega arith))
+    go (no t) = le-ltb r i (omega arith) ∙ sym (le-ltb r (i + 1) (omega arith))
+
 -- ---- rows over +0.0
 module _ (size : ℕ) (f : ℕ → ℕ → Float) where
   length_rows : (k : ℕ) → length (rows_to k size f) ≡ size * size
@@ -59,11 +67,7 @@ module _ (size : ℕ) (f : ℕ → ℕ → Float) where
     where
       go : (r c : ℕ) → r < size → c < size → Dec (r ≡ i) → q ! (r * size + c) ≡ cond (ltb r (i + 1)) (f r c) zero+
       go r c a b (yes s) = rw (s, lt-ltb i (i + 1) (omega arith)) (h c b)
-      go r c a b (no s) = o r c a b s ∙ rw e (rows_at i r c a b ∙ ap (λ t. cond t (f r c) zero+) (same (dec_lt r i)))
-        where
-          same : Dec (r < i) → ltb r i ≡ ltb r (i + 1)
-          same (yes t) = lt-ltb r i t ∙ sym (lt-ltb r (i + 1) (omega arith))
-          same (no t) = le-ltb r i (omega arith) ∙ sym (le-ltb r (i + 1) (omega arith))
+      go r c a b (no s) = o r c a b s ∙ rw e (rows_at i r c a b ∙ ap (λ t. cond t (f r c) zero+) (other_row r i s))
 
   -- places of two rows are never one
   apart : (r c i j : ℕ) → c < size → j < size → r ≢ i → r * size + c ≢ i * size + j
@@ -126,7 +130,7 @@ module _ (n : ℕ) (a : List Float) (c x : Float) (i from : ℕ) (e : from ≡ i
 
 -- ---- the entries
 module _ (n : ℕ) (a : List Float) (c : Float) (x : List Float) where
-  entry_in : (i j : ℕ) → i < n → j ≤ n → input_row n a c (x ! i) i j ≡ augmented_entry n a c x i j
+  pub entry_in : (i j : ℕ) → i < n → j ≤ n → input_row n a c (x ! i) i j ≡ augmented_entry n a c x i j
   unfolding input_row augmented_entry
   entry_in i j h l = rw (lt-ltb i n h) (go (dec_lt j n))
     where
@@ -134,11 +138,11 @@ module _ (n : ℕ) (a : List Float) (c : Float) (x : List Float) where
       go (yes k) = rw (lt-ltb j n k)
       go (no k) = rw (le-ltb j n (omega arith), eq-eqb j n (omega arith))
 
-  entry_past : (i j : ℕ) → i < n → n < j → augmented_entry n a c x i j ≡ zero+
+  pub entry_past : (i j : ℕ) → i < n → n < j → augmented_entry n a c x i j ≡ zero+
   unfolding augmented_entry
   entry_past i j h l = rw (lt-ltb i n h, le-ltb j n (omega arith), ne_eqb j n (omega arith))
 
-  entry_below : (i j : ℕ) → n ≤ i → augmented_entry n a c x i j ≡ cond (eqb j (i + 1)) one zero+
+  pub entry_below : (i j : ℕ) → n ≤ i → augmented_entry n a c x i j ≡ cond (eqb j (i + 1)) one zero+
   unfolding augmented_entry
   entry_below i j h = rw (le-ltb i n h)
 

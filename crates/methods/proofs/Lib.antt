@@ -5,3 +5,4 @@ pub mod Tallies
 pub mod Lines
 pub mod Took
 pub mod Shape
+pub mod BlocksOf

@@ -1,15 +1,18 @@
 // The actions of exponentials of a matrix.
 ghost use Rattle.std.specs.Prelude.{◌≡◌, ◌+◌, ◌-◌, ◌*◌, ◌<◌, ◌≤◌, length, replicate};
-ghost use Rattle.float.specs.Arith.{◌⊗◌, zero+, abs, sum_of};
+ghost use Rattle.float.specs.Arith.{◌⊗◌, zero+, one, abs, sum_of};
 ghost use Rattle.loops.specs.Loop.{mat, stores};
 ghost use Rattle.matrix.specs.Matrix.{at};
 ghost use Rattle.matrix.specs.Vector.{vec};
 ghost use Rattle.methods.specs.Vectors.{Sized};
 ghost use Rattle.methods.specs.Order.{order_number};
-ghost use Rattle.methods.specs.Phi.{augmented_entry, phi_action, phi_term, exp_action};
+ghost use Rattle.blocks.specs.Blocks.{Shifts};
+ghost use Rattle.blocks.specs.Storage.{places, split, held, RaisedTo};
+ghost use Rattle.methods.specs.Phi.{augmented, augmented_entry, phi_action, phi_term, exp_action};
 ghost use Rattle.methods.specs.Parts.{input_row, rows_to, chained, phi_into, admitted_sum, input_admitted, if_wanted, made};
 
 use crate::{Action, Dimension, Order, Tally, Vector, nothing, scaled};
+use blocks::{Raised, Shape};
 use matrix::vector;
 
 // A matrix of a dimension from 1 to 16, row by row.
@@ -99,19 +102,16 @@ impl Square<'_> {
         })
     }
 
-    // The last column, in room for so many entries.
-    fn phi_in<const ENTRIES: usize>(
-        &self,
-        scale_a: f64,
-        input: Vector,
-        size: usize,
-    ) -> Option<Action>
-        requires { (self.now.n < size) × (size ≤ 20) × (size * size ≤ ENTRIES) × (ENTRIES ≤ 400) }
-        ensures { result ≡ made (phi_into self.now.n self.now.entries.now scale_a input size (size - 1)) }
+    // The phi action by the exponential of the whole augmented matrix, in room for the largest, since this way is seldom gone.
+    // Not inlined, as `raised`: their rooms would stand in one frame, one beside the other.
+    #[inline(never)]
+    fn phi_plain(&self, scale_a: f64, order: Order, input: Vector) -> Option<Action>
+        ensures { result ≡ made (phi_action self.now.n self.now.entries.now scale_a (order_number order) input) }
     {
+        let size = self.n.get() + usize::from(order);
         let used = size * size;
-        let mut m = [0.0; ENTRIES];
-        let mut e = [0.0; ENTRIES];
+        let mut m = [0.0; 400];
+        let mut e = [0.0; 400];
         self.phi_into(
             scale_a,
             input,
@@ -122,22 +122,95 @@ impl Square<'_> {
         )
     }
 
-    // The first n entries of the last column of the augmented matrix's exponential; none where it is not admitted.
-    // The room that is lent is no larger than its size class.
+    // The rows of scale_a times the matrix, with the input column, as an array of blocks over +0.0, and a one in its lower block.
+    fn augment_blocks(&self, scale_a: f64, input: Vector, out: &mut [f64], p: usize)
+        requires few { (0 < p) × (p ≤ 4) }
+        requires out_value { out.old ≡ replicate (places self.now.n p) zero+ }
+        ensures len { length out.new ≡ places self.now.n p }
+        ensures whole { held self.now.n p out.new ≡ augmented self.now.n self.now.entries.now scale_a p input }
+        ensures shifts { Shifts self.now.n p (split self.now.n p out.new) one }
+    {
+        let n = self.n.get();
+        for i in 0..n {
+            self.augmented_row(scale_a, input[i], i, out, i * (n + p));
+        }
+        if p > 1 {
+            out[n * (n + p) + 1] = 1.0;
+        }
+    }
+
+    // The exponential of the augmented matrix by blocks, in four arrays that are lent, the first of +0.0.
+    fn raised_into(
+        &self,
+        scale_a: f64,
+        input: Vector,
+        m: &mut [f64],
+        sum: &mut [f64],
+        even: &mut [f64],
+        odd: &mut [f64],
+        p: usize,
+    ) -> Raised
+        requires few { (0 < p) × (p ≤ 4) }
+        requires m_value { m.old ≡ replicate (places self.now.n p) zero+ }
+        requires len { (length sum.old ≡ places self.now.n p) × (length even.old ≡ places self.now.n p) × (length odd.old ≡ places self.now.n p) }
+        ensures { RaisedTo self.now.n p (augmented self.now.n self.now.entries.now scale_a p input) result }
+    {
+        self.augment_blocks(scale_a, input, m, p);
+        let s = Shape { n: self.n.get(), p };
+        blocks::raise(m, sum, even, odd, s)
+    }
+
+    // The same in room for so many places.
+    fn raised_in<const PLACES: usize>(&self, scale_a: f64, input: Vector, p: usize) -> Raised
+        requires few { (0 < p) × (p ≤ 4) }
+        requires room { (places self.now.n p ≤ PLACES) × (PLACES ≤ 324) }
+        ensures { RaisedTo self.now.n p (augmented self.now.n self.now.entries.now scale_a p input) result }
+    {
+        let n = self.n.get();
+        let used = n * (n + p) + p;
+        let mut m = [0.0; PLACES];
+        let mut sum = [0.0; PLACES];
+        let mut even = [0.0; PLACES];
+        let mut odd = [0.0; PLACES];
+        self.raised_into(
+            scale_a,
+            input,
+            &mut m[..used],
+            &mut sum[..used],
+            &mut even[..used],
+            &mut odd[..used],
+            p,
+        )
+    }
+
+    // The same in the least class of room that holds it.
+    #[inline(never)]
+    fn raised(&self, scale_a: f64, order: Order, input: Vector) -> Raised
+        ensures { RaisedTo self.now.n (order_number order) (augmented self.now.n self.now.entries.now scale_a (order_number order) input) result }
+    {
+        let p = usize::from(order);
+        match self.n.get() {
+            1 => self.raised_in::<9>(scale_a, input, p),
+            2..=4 => self.raised_in::<36>(scale_a, input, p),
+            5..=8 => self.raised_in::<100>(scale_a, input, p),
+            9..=12 => self.raised_in::<196>(scale_a, input, p),
+            _ => self.raised_in::<324>(scale_a, input, p),
+        }
+    }
+
+    // The first n entries of the last column of the augmented matrix's exponential; none where it is not admitted. It is worked out by blocks; where
+    // a number that they square is not finite, by the whole.
     pub fn phi_action(&self, scale_a: f64, order: Order, input: Vector) -> Option<Action>
         ensures { result ≡ made (phi_action self.now.n self.now.entries.now scale_a (order_number order) input) }
     {
-        let size = self.n.get() + usize::from(order);
-        if size <= 4 {
-            return self.phi_in::<16>(scale_a, input, size);
+        match self.raised(scale_a, order, input) {
+            Raised::Refused => None,
+            Raised::Told { reach, column } => Some(Action {
+                v: column,
+                tally: Tally::single(reach),
+            }),
+            Raised::Overflowed => self.phi_plain(scale_a, order, input),
         }
-        if size <= 8 {
-            return self.phi_in::<64>(scale_a, input, size);
-        }
-        if size <= 12 {
-            return self.phi_in::<144>(scale_a, input, size);
-        }
-        self.phi_in::<400>(scale_a, input, size)
     }
 
     // Whether the sum of row i of scale_a times the matrix, with the input behind it, is admitted.
