@@ -451,6 +451,24 @@ fn bare_calls(script: &mut Script, random: &mut Random) {
     ] {
         script.call(&call);
     }
+    // Exponentials that grow beyond the doubles: in the last squaring, before it, or in no entry; with and without a NaN.
+    for n in [1, 2, 3, 4, 5, 8, 9, 12, 16_usize] {
+        for growth in [300.0, 700.0, 720.0, 1500.0, 1e6, 1e9] {
+            let matrix: Vec<f64> = (0..n * n)
+                .map(|place| {
+                    if place % (n + 1) == 0 {
+                        growth * (1.0 - 0.1 * random.unit().abs())
+                    } else {
+                        random.unit()
+                    }
+                })
+                .collect();
+            let input: Vec<f64> = (0..n).map(|_| random.unit()).collect();
+            for order in 1..=4 {
+                script.call(&phi(n as u8, order, 1.0, &matrix, &input, n));
+            }
+        }
+    }
     let norm = |n: u8, tolerances: [f64; 2], error: &[f64], state: &[f64]| Call::ErrorNorm {
         n,
         relative: tolerances[0],

@@ -639,6 +639,9 @@ impl Host {
         } else {
             1 + self.random.below(4) as u8
         };
+        if self.random.chance(6) {
+            return self.growing_phi_action();
+        }
         let given = if self.random.chance(8) { self.lent(n) } else { n };
         let scale_a = match self.random.below(8) {
             0 => self.odd(),
@@ -651,6 +654,25 @@ impl Host {
             matrix: self.entries((given * given).min(512)),
             input: self.entries(n),
             lent: if self.random.chance(8) { self.lent(n) } else { n },
+        }
+    }
+
+    /// One whose exponential grows beyond the doubles in one of its last squarings, or just does not.
+    fn growing_phi_action(&mut self) -> Call {
+        self.script.tally.note("phi actions near the largest double");
+        let n = 1 + self.random.below(PLACES);
+        let growth = self.random.pick(&[600.0, 720.0, 1400.0, 3000.0, 1e5, 1e8]);
+        let mut matrix: Vec<f64> = (0..n * n).map(|_| self.random.unit()).collect();
+        for i in 0..n {
+            matrix[i * (n + 1)] = growth * (1.0 - 0.3 * self.random.unit().abs());
+        }
+        Call::PhiAction {
+            n: n as u8,
+            order: 1 + self.random.below(4) as u8,
+            scale_a: self.random.pick(&[1.0, -1.0, 0.5]),
+            matrix,
+            input: (0..n).map(|_| self.random.unit()).collect(),
+            lent: n,
         }
     }
 
