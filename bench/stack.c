@@ -9,10 +9,10 @@
 
 #include "vunchrem.h"
 
-enum call { OPEN, FIRST_STEP, BEGIN, SUPPLY, ACCEPT, DROP, OPEN_BY_TABLE, WHOLE_STEP, EXPONENTIAL, PHI_ACTION, ERROR_NORM, BRING_OVER, NOTHING };
+enum call { OPEN, FIRST_STEP, BEGIN, SUPPLY, ACCEPT, DROP, OPEN_BY_TABLE, WHOLE_STEP, EXPONENTIAL, PHI_ACTION, PHI_GROWN, ERROR_NORM, BRING_OVER, NOTHING };
 enum { STACK = 1 << 20, PAINT = 0xa5, SESSION_CALLS = EXPONENTIAL, CALLS = NOTHING, LARGEST = 20 };
 
-static const char *const calls[CALLS] = {"open", "first step", "begin", "supply", "accept", "drop", "by table", "whole step", "exponential", "phi action",
+static const char *const calls[CALLS] = {"open", "first step", "begin", "supply", "accept", "drop", "by table", "whole step", "exponential", "phi action", "phi, grown",
                                          "error norm", "bring over"};
 static const char *const schemes[] = {
     "LawsonEuler", "NorsettEuler", "Etdrk2", "Etdrk3", "Etdrk4", "HochOst4", "Exp4", "Epirk4s3A",
@@ -46,6 +46,9 @@ static void make(void) {
     case WHOLE_STEP: vunchrem_whole_step(step, table, table_len, SESSION, REPLY); break;
     case EXPONENTIAL: vunchrem_exponential(n, matrix, n * n, out, n * n, REPLY); break;
     case PHI_ACTION: vunchrem_phi_action(n, order, step, matrix, n * n, u, n, out, n, REPLY); break;
+    case PHI_GROWN: /* numbers that it squares grow beyond the doubles */
+        vunchrem_phi_action(n, order, -1500.0 * step, matrix, n * n, u, n, out, n, REPLY);
+        break;
     case ERROR_NORM: vunchrem_error_norm(n, tolerance, absolute, V, none, V, u, V, u, V, REPLY); break;
     case BRING_OVER: /* it has no reply */
         if (vunchrem_bring_over(s.numbers, VUNCHREM_NUMBERS, old, VUNCHREM_OLD_FIGURES, s.figures, VUNCHREM_FIGURES) == 0)
@@ -226,6 +229,7 @@ int main(void) {
             n = sizes[i];
             sprintf(place, "n = %d, order = %d", (int)n, (int)order);
             bare(PHI_ACTION);
+            bare(PHI_GROWN);
         }
     for (i = 0; i < 2; i++) {
         n = sizes[i];
