@@ -197,7 +197,7 @@ fn turn(a: &[f64], sum: &mut [f64], last: &[f64], next: &mut [f64], k: u32, s: S
 }
 
 // The series of the whole matrix, into sum, and the number of its last term.
-// Kept, as is square_rounds: the loop is that of matrix; a closure for the product would be handed slices that it writes, of which the proof could name nothing.
+// The loop is that of matrix, over the product by blocks; so is that of square_rounds.
 #[inline(always)]
 fn taylor(a: &[f64], sum: &mut [f64], even: &mut [f64], odd: &mut [f64], s: Shape) -> u32
     requires len { (length a.now ≡ places s.n s.p) × (length sum.old ≡ places s.n s.p) × (length even.old ≡ places s.n s.p) × (length odd.old ≡ places s.n s.p) }
