@@ -20,56 +20,88 @@ fn ended() -> io::Error {
     io::Error::from(io::ErrorKind::InvalidData)
 }
 
+// The bytes of a vector, and those of a reply before the lent places.
+const VECTOR: usize = 8 * image::VECTOR;
+
+const REPLY: usize = 22;
+
 // ---- what a call is handed
 
-fn read_number<R: Read, W: Write>(pipe: &mut Pipe<R, W>) -> io::Result<usize> {
-    Ok(wire::get_u8(&mut pipe.input)? as usize)
-}
-
-// How many places a matrix, an input or an output has, or how many bytes a table.
-fn read_length<R: Read, W: Write>(pipe: &mut Pipe<R, W>, most: usize) -> io::Result<usize>
+// How many places a matrix, an input or an output has, or how many bytes a table: the number at place i.
+fn length_at(b: &[u8], i: usize, most: usize) -> io::Result<usize>
+    requires { i + 2 ≤ length b.now }
     ensures { IfOk result (λ length. length ≤ most) }
 {
-    let length = wire::get_u16(&mut pipe.input)? as usize;
+    let length = wire::u16_at(b, i) as usize;
     if length > most {
         return Err(ended());
     }
     Ok(length)
 }
 
-fn read_vector<R: Read, W: Write>(pipe: &mut Pipe<R, W>) -> io::Result<[f64; image::VECTOR]> {
+// The vector that b begins with.
+fn vector(b: &[u8]) -> [f64; image::VECTOR]
+    requires { 128 ≤ length b.now }
+{
     let mut x = [0.0; image::VECTOR];
-    wire::get_doubles(&mut pipe.input, &mut x)?;
-    Ok(x)
+    wire::doubles_in(b, &mut x);
+    x
+}
+
+// Reads all of x.
+fn read_doubles<R: Read, W: Write>(pipe: &mut Pipe<R, W>, x: &mut [f64]) -> io::Result<()>
+    requires { length x.old ≤ 512 }
+{
+    let mut b = [0u8; 8 * ROOM];
+    pipe.fill(&mut b[..8 * x.len()])?;
+    wire::doubles_in(&b, x);
+    Ok(())
 }
 
 // The head that an image begins with.
-fn read_head<R: Read, W: Write>(pipe: &mut Pipe<R, W>) -> io::Result<Head> {
+fn head(b: &[u8]) -> Head
+    requires { 5 ≤ length b.now }
+{
     let mut numbers = [0; image::NUMBERS];
-    for number in numbers.iter_mut() {
-        *number = wire::get_u8(&mut pipe.input)? as u64;
+    for (number, byte) in numbers.iter_mut().zip(b) {
+        *number = *byte as u64;
     }
-    Ok(image::head_in(&numbers))
+    image::head_in(&numbers)
 }
 
 // ---- replies
 
-fn say<R: Read, W: Write>(
+// The bytes of a reply before the lent places.
+fn reply(answer: Result<Answer, Refusal>) -> [u8; REPLY] {
+    let r = image::reply_of(answer);
+    let [first, second, third] = r.counts;
+    let mut b = [0u8; REPLY];
+    b[0] = u8::from(r.outcome);
+    b[1] = r.refusal;
+    b[2..10].copy_from_slice(&wire::f64_bytes(r.figure));
+    b[10..14].copy_from_slice(&first.to_le_bytes());
+    b[14..18].copy_from_slice(&second.to_le_bytes());
+    b[18..22].copy_from_slice(&third.to_le_bytes());
+    b
+}
+
+// Says the answer of a call that was lent `out`, and the places as the call left them.
+fn say_lent<R: Read, W: Write>(
     pipe: &mut Pipe<R, W>,
     answer: Result<Answer, Refusal>,
-) -> io::Result<()> {
-    let r = image::reply_of(answer);
-    pipe.output.write_all(&[u8::from(r.outcome), r.refusal])?;
-    wire::put_f64(&mut pipe.output, r.figure)?;
-    for count in r.counts {
-        wire::put_u32(&mut pipe.output, count)?;
-    }
-    Ok(())
+    out: &[f64],
+) -> io::Result<()>
+    requires { length out.now ≤ 512 }
+{
+    let mut b = [0u8; REPLY + 8 * ROOM];
+    b[..REPLY].copy_from_slice(&reply(answer));
+    wire::set_doubles(&mut b[REPLY..], out);
+    pipe.write_all(&b[..REPLY + 8 * out.len()])
 }
 
 // Says the answer; the session goes on.
 fn told<R: Read, W: Write>(pipe: &mut Pipe<R, W>, t: Told) -> io::Result<Session> {
-    say(pipe, t.answer)?;
+    pipe.write_all(&reply(t.answer))?;
     Ok(t.session)
 }
 
@@ -77,61 +109,68 @@ fn told<R: Read, W: Write>(pipe: &mut Pipe<R, W>, t: Told) -> io::Result<Session
 // Kept: each is handed the pipe and the session and gives the session that comes back, as the core's own calls do; in a struct of both each would write the session back by itself.
 
 fn open<R: Read, W: Write>(pipe: &mut Pipe<R, W>) -> io::Result<Session> {
-    let scheme = wire::get_u8(&mut pipe.input)?;
-    let n = read_number(pipe)?;
-    let history = image::history_of(wire::get_u8(&mut pipe.input)? as u64);
-    let time = wire::get_f64(&mut pipe.input)?;
-    let relative = wire::get_f64(&mut pipe.input)?;
-    let absolute = read_vector(pipe)?;
-    let state = read_vector(pipe)?;
-    let derivative = read_vector(pipe)?;
-    let previous = read_vector(pipe)?;
+    let mut b = [0u8; 19 + 4 * VECTOR];
+    pipe.fill(&mut b)?;
     let t = Session::open(
-        scheme, n, time, state, derivative, relative, absolute, history, previous,
+        b[0],
+        b[1] as usize,
+        wire::f64_at(&b, 3),
+        vector(&b[19 + VECTOR..]),
+        vector(&b[19 + 2 * VECTOR..]),
+        wire::f64_at(&b, 11),
+        vector(&b[19..]),
+        image::history_of(b[2] as u64),
+        vector(&b[19 + 3 * VECTOR..]),
     );
     told(pipe, t)
 }
 
 fn begin<R: Read, W: Write>(pipe: &mut Pipe<R, W>, s: Session) -> io::Result<Session> {
-    let wish = image::wish_of(wire::get_u8(&mut pipe.input)? as u64);
-    let step = wire::get_f64(&mut pipe.input)?;
+    let mut b = [0u8; 11 + 8 * image::MATRIX];
+    pipe.fill(&mut b)?;
+    let wish = image::wish_of(b[0] as u64);
+    let step = wire::f64_at(&b, 1);
     let mut jacobian = [0.0; image::MATRIX];
-    wire::get_doubles(&mut pipe.input, &mut jacobian)?;
-    let lent = read_length(pipe, ROOM)?;
+    wire::doubles_in(&b[9..], &mut jacobian);
+    let lent = length_at(&b, 9 + 8 * image::MATRIX, ROOM)?;
     let mut out = [-1.5; ROOM];
     let out = &mut out[..lent];
-    let s = told(pipe, s.begin(step, wish, jacobian, out))?;
-    wire::put_doubles(&mut pipe.output, out)?;
-    Ok(s)
+    let t = s.begin(step, wish, jacobian, out);
+    say_lent(pipe, t.answer, out)?;
+    Ok(t.session)
 }
 
 fn supply<R: Read, W: Write>(pipe: &mut Pipe<R, W>, s: Session) -> io::Result<Session> {
-    let place = wire::get_u8(&mut pipe.input)?;
-    let answer = read_vector(pipe)?;
-    let lent = read_length(pipe, ROOM)?;
+    let mut b = [0u8; 3 + VECTOR];
+    pipe.fill(&mut b)?;
+    let lent = length_at(&b, 1 + VECTOR, ROOM)?;
     let mut out = [-1.5; ROOM];
     let out = &mut out[..lent];
-    let s = told(pipe, s.supply(place as usize, answer, out))?;
-    wire::put_doubles(&mut pipe.output, out)?;
-    Ok(s)
+    let t = s.supply(b[0] as usize, vector(&b[1..]), out);
+    say_lent(pipe, t.answer, out)?;
+    Ok(t.session)
 }
 
 fn accept<R: Read, W: Write>(pipe: &mut Pipe<R, W>, s: Session) -> io::Result<Session> {
-    let derivative = read_vector(pipe)?;
-    told(pipe, s.accept(derivative))
+    let mut b = [0u8; VECTOR];
+    pipe.fill(&mut b)?;
+    told(pipe, s.accept(vector(&b)))
 }
 
 fn first_step<R: Read, W: Write>(pipe: &mut Pipe<R, W>, s: Session) -> io::Result<Session> {
-    let largest = wire::get_f64(&mut pipe.input)?;
-    told(pipe, s.first_step(largest))
+    let mut b = [0u8; 8];
+    pipe.fill(&mut b)?;
+    told(pipe, s.first_step(wire::f64_at(&b, 0)))
 }
 
 fn whole_step<R: Read, W: Write>(pipe: &mut Pipe<R, W>, s: Session) -> io::Result<Session> {
-    let step = wire::get_f64(&mut pipe.input)?;
-    let bytes = read_length(pipe, TABLE)?;
+    let mut b = [0u8; 10];
+    pipe.fill(&mut b)?;
+    let step = wire::f64_at(&b, 0);
+    let bytes = length_at(&b, 8, TABLE)?;
     let mut table = [0u8; TABLE];
     let table = &mut table[..bytes];
-    pipe.input.read_exact(table)?;
+    pipe.fill(table)?;
     let mut figures = s.figures();
     let left = table::whole_step(s.head(), &mut figures, table, step);
     let t = Told {
@@ -144,71 +183,78 @@ fn whole_step<R: Read, W: Write>(pipe: &mut Pipe<R, W>, s: Session) -> io::Resul
 // ---- the bare calls
 
 fn exponential<R: Read, W: Write>(pipe: &mut Pipe<R, W>) -> io::Result<()> {
-    let size = read_number(pipe)?;
-    let entries = read_length(pipe, ROOM)?;
-    let lent = read_length(pipe, ROOM)?;
+    let mut b = [0u8; 5];
+    pipe.fill(&mut b)?;
+    let entries = length_at(&b, 1, ROOM)?;
+    let lent = length_at(&b, 3, ROOM)?;
     let mut m = [0.0; ROOM];
     let m = &mut m[..entries];
-    wire::get_doubles(&mut pipe.input, m)?;
+    read_doubles(pipe, m)?;
     let mut out = [-1.5; ROOM];
     let out = &mut out[..lent];
-    say(pipe, session::exponential(size, m, out))?;
-    wire::put_doubles(&mut pipe.output, out)
+    let answer = session::exponential(b[0] as usize, m, out);
+    say_lent(pipe, answer, out)
 }
 
 fn phi_action<R: Read, W: Write>(pipe: &mut Pipe<R, W>) -> io::Result<()> {
-    let n = read_number(pipe)?;
-    let order = read_number(pipe)?;
-    let scale_a = wire::get_f64(&mut pipe.input)?;
-    let entries = read_length(pipe, ROOM)?;
-    let inputs = read_length(pipe, ROOM)?;
-    let lent = read_length(pipe, ROOM)?;
+    let mut b = [0u8; 16];
+    pipe.fill(&mut b)?;
+    let scale_a = wire::f64_at(&b, 2);
+    let entries = length_at(&b, 10, ROOM)?;
+    let inputs = length_at(&b, 12, ROOM)?;
+    let lent = length_at(&b, 14, ROOM)?;
     let mut a = [0.0; ROOM];
     let a = &mut a[..entries];
-    wire::get_doubles(&mut pipe.input, a)?;
+    read_doubles(pipe, a)?;
     let mut input = [0.0; ROOM];
     let input = &mut input[..inputs];
-    wire::get_doubles(&mut pipe.input, input)?;
+    read_doubles(pipe, input)?;
     let mut out = [-1.5; ROOM];
     let out = &mut out[..lent];
-    say(pipe, session::phi_action(n, order, scale_a, a, input, out))?;
-    wire::put_doubles(&mut pipe.output, out)
+    let answer = session::phi_action(b[0] as usize, b[1] as usize, scale_a, a, input, out);
+    say_lent(pipe, answer, out)
 }
 
 fn error_norm<R: Read, W: Write>(pipe: &mut Pipe<R, W>) -> io::Result<()> {
-    let n = read_number(pipe)?;
-    let relative = wire::get_f64(&mut pipe.input)?;
-    let absolute = read_vector(pipe)?;
-    let error = read_vector(pipe)?;
-    let state = read_vector(pipe)?;
-    let candidate = read_vector(pipe)?;
-    say(
-        pipe,
-        session::error_norm(n, relative, absolute, error, state, candidate),
-    )
+    let mut b = [0u8; 9 + 4 * VECTOR];
+    pipe.fill(&mut b)?;
+    let answer = session::error_norm(
+        b[0] as usize,
+        wire::f64_at(&b, 1),
+        vector(&b[9..]),
+        vector(&b[9 + VECTOR..]),
+        vector(&b[9 + 2 * VECTOR..]),
+        vector(&b[9 + 3 * VECTOR..]),
+    );
+    pipe.write_all(&reply(answer))
 }
 
 // ---- a session's image
 
 fn show<R: Read, W: Write>(pipe: &mut Pipe<R, W>, s: Session) -> io::Result<()> {
-    for number in image::numbers_of(s.head()) {
-        pipe.output.write_all(&[(number % 256) as u8])?;
+    let mut b = [0u8; image::BYTES];
+    for (byte, number) in b.iter_mut().zip(image::numbers_of(s.head())) {
+        *byte = (number % 256) as u8;
     }
-    wire::put_doubles(&mut pipe.output, &s.figures())
+    wire::set_doubles(&mut b[image::NUMBERS..], &s.figures());
+    pipe.write_all(&b)
 }
 
 fn load<R: Read, W: Write>(pipe: &mut Pipe<R, W>) -> io::Result<Session> {
-    let k = read_head(pipe)?;
+    let mut b = [0u8; image::BYTES];
+    pipe.fill(&mut b)?;
     let mut figures = [0.0; image::FIGURES];
-    wire::get_doubles(&mut pipe.input, &mut figures)?;
-    Ok(Session::of(k, figures))
+    wire::doubles_in(&b[image::NUMBERS..], &mut figures);
+    Ok(Session::of(head(&b), figures))
 }
 
 // The session that an image of the older layout is brought over as.
 fn bring_over<R: Read, W: Write>(pipe: &mut Pipe<R, W>) -> io::Result<Session> {
-    let k = read_head(pipe)?;
+    let mut b = [0u8; image::OLD_BYTES];
+    pipe.fill(&mut b)?;
     let mut old = [0.0; image::OLD_FIGURES];
-    wire::get_doubles(&mut pipe.input, &mut old)?;
+    wire::doubles_in(&b[image::NUMBERS..], &mut old);
+    let k = head(&b);
     let mut figures = [0.0; image::FIGURES];
     k.bring_over(&old, &mut figures);
     Ok(Session::of(k, figures))
@@ -219,7 +265,9 @@ fn bring_over<R: Read, W: Write>(pipe: &mut Pipe<R, W>) -> io::Result<Session> {
 // One call of the script: the session that the run goes on with.
 // Kept: the match is the table of the script's calls; an enum of them would name each once more, only to be matched here.
 fn call<R: Read, W: Write>(pipe: &mut Pipe<R, W>, s: Session) -> io::Result<Session> {
-    match wire::get_u8(&mut pipe.input)? {
+    let mut op = [0u8; 1];
+    pipe.fill(&mut op)?;
+    match op[0] {
         0 => open(pipe),
         1 => begin(pipe, s),
         2 => supply(pipe, s),
@@ -237,13 +285,6 @@ fn call<R: Read, W: Write>(pipe: &mut Pipe<R, W>, s: Session) -> io::Result<Sess
     }
 }
 
-// One call, and its reply is out.
-fn turn<R: Read, W: Write>(pipe: &mut Pipe<R, W>, s: Session) -> io::Result<Session> {
-    let s = call(pipe, s)?;
-    pipe.output.flush()?;
-    Ok(s)
-}
-
 // The session that a refused open gives.
 fn nothing() -> Session {
     let x = [0.0; image::VECTOR];
@@ -252,16 +293,13 @@ fn nothing() -> Session {
 
 // Ends with the script, or at a reply that cannot be written. A proved loop has to end: no run uses up its turns.
 fn run<R: Read, W: Write>(pipe: &mut Pipe<R, W>) {
-    let _ended = (0..u64::MAX).try_fold(nothing(), |s, _| turn(pipe, s));
+    let _ended = (0..u64::MAX).try_fold(nothing(), |s, _| call(pipe, s));
 }
 
-// Where no memory is left for the buffers, the streams stand without.
+// The streams without buffers: what follows a call stays in the input for whoever reads on.
 fn main(rt: HostRuntime) {
-    match pipe::standard(rt.alloc(), rt.stdin(), rt.stdout()) {
-        Ok(mut pipe) => run(&mut pipe),
-        Err(_) => run(&mut Pipe {
-            input: rt.stdin(),
-            output: rt.stdout(),
-        }),
-    }
+    run(&mut Pipe {
+        input: rt.stdin(),
+        output: rt.stdout(),
+    });
 }

@@ -10,7 +10,7 @@ use lib.Count.{count_trailing_zeros}
 use Rattle.std.specs.Float.Ieee.{nan, inf, fin, binary64, lt, eq, div, is_nan, fits, of_bits, of_fields, odd, up, down, level, to_bits, size, span, climb}
 use Rattle.loops.proofs.Bools.{both_true}
 use Rattle.float.specs.Arith.{◌⊘◌, zero+, one, finite, abs, larger, plus_zero}
-use Rattle.std.specs.Float.{float_is_finite}
+use Rattle.std.specs.Float.{float_is_finite, float_with_sign}
 
 not_level : (m : ℕ) (e : ℤ) → eqb (suc m * up e * 1) (0 * down e) ≡ false
 not_level m e = ne_eqb (suc m * up e * 1) (0 * down e) (λ h. omega (arith, h, mul-pos {m = suc m} {n = up e} (omega arith) (up_pos e)))
@@ -43,6 +43,13 @@ pub zero_exponent : (e : ℤ) → up e * down e ≡ 1 → e ≡ pos 0
 zero_exponent (pos zero) h = refl
 zero_exponent (pos (suc k)) h = absurd (omega (arith, pow-suc 2 k, pow_pos k))
 zero_exponent (negsuc k) h = absurd (omega (arith, pow-suc 2 k, pow_pos k))
+
+-- a number without its sign
+pub without_sign : (x : Float) → float_with_sign false x ≡ abs x
+unfolding abs float_with_sign
+without_sign nan = refl
+without_sign (inf s) = refl
+without_sign (fin s m e) = refl
 
 pub abs-zero : (x : Float) → fits binary64 x ≡ true → eq x zero+ ≡ true → zero+ ≡ abs x
 unfolding abs eq fits of_bits of_fields odd count_trailing_zeros

@@ -26,6 +26,7 @@ pub fn plus_zero(x: f64) -> bool
 }
 
 // The absolute value; that of a zero is +0.0.
+#[tactic(auto, using(crate::proofs::Floats::without_sign))]
 pub fn abs(x: f64) -> f64
     ensures { result ≡ abs x }
 {
@@ -34,6 +35,7 @@ pub fn abs(x: f64) -> f64
 
 // The larger of two; a NaN is passed over, as f64::max does.
 // Kept: std's contract of max leaves open which of 0.0 and -0.0 it gives, so a bit of the result would not be known.
+#[tactic(auto, unfolding(crate::specs::Arith::larger))]
 pub fn larger(x: f64, y: f64) -> f64
     ensures { result ≡ larger x y }
 {

@@ -2,10 +2,14 @@
 // are compared with these lines, which crates/layout/stdout holds.
 #![tactic(auto)]
 
+use arrayvec::ArrayString;
 use image::Outcome;
+use pipe::Pipe;
+use std::fmt::Write as _;
+use std::io::{Read, Write};
 
 // Each constant's name, and its value as six digits. A line that cannot be written is left out.
-fn write_layout(rt: &impl Print) {
+fn write_layout<R: Read, W: Write>(pipe: &mut Pipe<R, W>) {
     let constants = [
         ("VECTOR", image::VECTOR),
         ("MATRIX", image::MATRIX),
@@ -43,10 +47,16 @@ fn write_layout(rt: &impl Print) {
         ("NORM", Outcome::Norm as usize),
     ];
     for (name, value) in constants {
-        let _ = println!(rt; "{name} {value:06}");
+        let mut line = ArrayString::<32>::new();
+        if writeln!(line, "{name} {value:06}").is_ok() {
+            let _ = pipe.write_all(line.as_bytes());
+        }
     }
 }
 
 fn main(rt: HostRuntime) {
-    write_layout(&rt);
+    write_layout(&mut Pipe {
+        input: rt.stdin(),
+        output: rt.stdout(),
+    });
 }

@@ -299,6 +299,18 @@ fn turn(a: &[f64], sum: &mut [f64], last: &[f64], next: &mut [f64], k: u32, n: u
     add_term(next, sum, k)
 }
 
+// All of a into x.
+// Kept: the library's copy asks the C library for memmove, which nothing else here needs.
+#[inline(always)]
+fn copy_all(a: &[f64], x: &mut [f64])
+    requires { length x.old ≡ length a.now }
+    ensures { x.new ≡ a.now }
+{
+    for (p, y) in a.iter().enumerate() {
+        x[p] = *y;
+    }
+}
+
 // The first term, into term: the matrix itself, where -0.0 becomes +0.0. It is added to the sum; whether it is small enough to be the last.
 #[inline(always)]
 pub fn add_first(a: &[f64], sum: &mut [f64], term: &mut [f64]) -> bool
@@ -306,7 +318,7 @@ pub fn add_first(a: &[f64], sum: &mut [f64], term: &mut [f64]) -> bool
     requires low { le (max_abs one (add_all sum.old (positive a.now))) two ≡ true }
     ensures { Begun a.now sum.old term.new sum.new result }
 {
-    term.copy_from_slice(a);
+    copy_all(a, term);
     add_by(term, sum, |x| 0.0 + x);
     is_last(term, sum)
 }

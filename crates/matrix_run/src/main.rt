@@ -10,51 +10,58 @@ use pipe::Pipe;
 use std::io;
 use std::io::{Read, Write};
 
-// Room for the largest matrix.
+// Room for the largest matrix, and for its bytes.
 const ROOM: usize = 400;
+
+const BYTES: usize = 8 * ROOM;
 
 // Answers an exponential.
 fn exponential<R: Read, W: Write>(pipe: &mut Pipe<R, W>, n: usize) -> io::Result<()>
     requires { n ≤ 20 }
 {
+    let places = n * n;
+    let mut bytes = [0u8; 3 + BYTES];
+    pipe.fill(&mut bytes[..8 * places])?;
     let mut m = [0.0; ROOM];
     let mut out = [0.0; ROOM];
-    let m = &mut m[..n * n];
-    let out = &mut out[..n * n];
-    wire::get_doubles(&mut pipe.input, m)?;
+    let m = &mut m[..places];
+    let out = &mut out[..places];
+    wire::doubles_in(&bytes, m);
     let Some(reach) = matrix::matrix_exp(m, out, n) else {
         return pipe.write_all(&[0]);
     };
-    pipe.output
-        .write_all(&[1, reach.terms as u8, reach.squarings as u8])?;
-    wire::put_doubles(&mut pipe.output, out)?;
-    pipe.output.flush()
+    bytes[..3].copy_from_slice(&[1, reach.terms as u8, reach.squarings as u8]);
+    wire::set_doubles(&mut bytes[3..], out);
+    pipe.write_all(&bytes[..3 + 8 * places])
 }
 
 // Answers squarings.
 fn squarings<R: Read, W: Write>(pipe: &mut Pipe<R, W>, n: usize) -> io::Result<()>
     requires { n ≤ 20 }
 {
-    let count = wire::get_u8(&mut pipe.input)? as u32;
+    let size = 8 * (n * n);
+    let mut bytes = [0u8; 1 + 2 * BYTES];
+    pipe.fill(&mut bytes[..1 + 2 * size])?;
+    let count = bytes[0] as u32;
     let mut first = [0.0; ROOM];
     let mut second = [0.0; ROOM];
     let first = &mut first[..n * n];
     let second = &mut second[..n * n];
-    wire::get_doubles(&mut pipe.input, first)?;
-    wire::get_doubles(&mut pipe.input, second)?;
+    wire::doubles_in(&bytes[1..], first);
+    wire::doubles_in(&bytes[1 + size..], second);
     matrix::square_rounds(first, second, count, n);
-    wire::put_doubles(&mut pipe.output, first)?;
-    wire::put_doubles(&mut pipe.output, second)?;
-    pipe.output.flush()
+    wire::set_doubles(&mut bytes, first);
+    wire::set_doubles(&mut bytes[size..], second);
+    pipe.write_all(&bytes[..2 * size])
 }
 
 // Answers one record; another kind, or a size above 20, ends the run.
 fn record<R: Read, W: Write>(pipe: &mut Pipe<R, W>) -> io::Result<()> {
-    let kind = wire::get_u8(&mut pipe.input)?;
-    let n = wire::get_u8(&mut pipe.input)? as usize;
-    match (kind, n) {
-        (0, 0..=20) => exponential(pipe, n),
-        (1, 0..=20) => squarings(pipe, n),
+    let mut head = [0u8; 2];
+    pipe.fill(&mut head)?;
+    match (head[0], head[1] as usize) {
+        (0, n @ 0..=20) => exponential(pipe, n),
+        (1, n @ 0..=20) => squarings(pipe, n),
         _ => Err(io::Error::from(io::ErrorKind::InvalidData)),
     }
 }
@@ -65,13 +72,10 @@ fn run<R: Read, W: Write>(pipe: &mut Pipe<R, W>) {
     let _ended = (0..u64::MAX).try_for_each(|_| record(pipe));
 }
 
-// Where no memory is left for the buffers, the streams stand without.
+// The streams without buffers: what follows a record stays in the input for whoever reads on.
 fn main(rt: HostRuntime) {
-    match pipe::standard(rt.alloc(), rt.stdin(), rt.stdout()) {
-        Ok(mut pipe) => run(&mut pipe),
-        Err(_) => run(&mut Pipe {
-            input: rt.stdin(),
-            output: rt.stdout(),
-        }),
-    }
+    run(&mut Pipe {
+        input: rt.stdin(),
+        output: rt.stdout(),
+    });
 }

@@ -12,75 +12,83 @@ use pipe::Pipe;
 use std::io;
 use std::io::{Read, Write};
 
-// The most answers of a record, and the bytes of the longest record's doubles.
+// The most answers of a record, the bytes of a vector and of a Jacobian, and those of the longest reply.
 const ANSWERS: usize = 4;
 
-const LONGEST: usize = 8 * (2 + 3 * PLACES + PLACES * PLACES + ANSWERS * PLACES);
+const VECTOR: usize = 8 * PLACES;
 
-// The first n places of a vector; +0.0 in the others.
-fn read_vector<R: Read>(input: &mut R, n: usize) -> io::Result<[f64; PLACES]>
+const JACOBIAN: usize = VECTOR * PLACES;
+
+const REPLY: usize = 10 + 3 * VECTOR;
+
+// The first n places of a vector; +0.0 in the others, and in those that the input does not have any more.
+fn read_vector<R: Read, W: Write>(pipe: &mut Pipe<R, W>, n: usize) -> [f64; PLACES]
     requires { n ≤ 16 }
 {
+    let mut bytes = [0u8; VECTOR];
+    pipe.read_full(&mut bytes[..8 * n]);
     let mut x = [0.0; PLACES];
-    wire::get_doubles(input, &mut x[..n])?;
-    Ok(x)
+    wire::doubles_in(&bytes, &mut x[..n]);
+    x
 }
 
-// What a step came to.
-fn write_step<W: Write>(
-    output: &mut W,
-    scheme: u8,
-    n: usize,
-    r: Option<StepResult>,
-) -> io::Result<()>
+// What a step came to, as the bytes of a reply: how many there are.
+fn put_step(b: &mut [u8; REPLY], scheme: u8, n: usize, r: Option<StepResult>) -> usize
     requires { n ≤ 16 }
+    ensures { result ≤ 394 }
 {
     match r {
-        None => output.write_all(&[0]),
+        None => {
+            b[0] = 0;
+            1
+        }
         Some(StepResult::Question(state, time)) => {
-            output.write_all(&[1])?;
-            wire::put_f64(output, time)?;
-            wire::put_doubles(output, &state[..n])
+            b[0] = 1;
+            b[1..9].copy_from_slice(&wire::f64_bytes(time));
+            wire::set_doubles(&mut b[9..], &state[..n]);
+            9 + 8 * n
         }
         Some(StepResult::Done(candidate, error, nonlinear, work)) => {
-            output.write_all(&[2])?;
-            wire::put_u32(output, work.exponentials)?;
-            wire::put_u32(output, work.products)?;
-            wire::put_doubles(output, &candidate[..n])?;
+            b[0] = 2;
+            b[1..5].copy_from_slice(&work.exponentials.to_le_bytes());
+            b[5..9].copy_from_slice(&work.products.to_le_bytes());
+            wire::set_doubles(&mut b[9..], &candidate[..n]);
             let told = scheme == EXPRB32 || scheme == EXPRB43;
-            output.write_all(&[told as u8])?;
-            wire::put_doubles(output, &error[..n])?;
-            wire::put_doubles(output, &nonlinear[..n])
+            b[9 + 8 * n] = told as u8;
+            wire::set_doubles(&mut b[10 + 8 * n..], &error[..n]);
+            wire::set_doubles(&mut b[10 + 16 * n..], &nonlinear[..n]);
+            10 + 24 * n
         }
     }
 }
 
 // Answers one record. A dimension that is not 1 to 16, or more than four answers, ends the run; a record that is cut short goes on in zeros.
 fn record<R: Read, W: Write>(pipe: &mut Pipe<R, W>) -> io::Result<()> {
-    let scheme = wire::get_u8(&mut pipe.input)?;
-    let n = wire::get_u8(&mut pipe.input)? as usize;
-    let held = wire::get_u8(&mut pipe.input)? == 1;
-    let count = wire::get_u8(&mut pipe.input)? as usize;
+    let mut head = [0u8; 4];
+    pipe.fill(&mut head)?;
+    let scheme = head[0];
+    let n = head[1] as usize;
+    let held = head[2] == 1;
+    let count = head[3] as usize;
     if n == 0 || n > PLACES || count > ANSWERS {
         return Err(io::Error::from(io::ErrorKind::InvalidData));
     }
-    let size = 8 * (2 + 3 * n + n * n + count * n);
-    let mut doubles = [0u8; LONGEST];
-    pipe.read_full(&mut doubles[..size]);
-    let mut doubles = &doubles[..size];
-    let input = &mut doubles;
-    let time = wire::get_f64(input)?;
-    let step = wire::get_f64(input)?;
-    let state = read_vector(input, n)?;
-    let f0 = read_vector(input, n)?;
+    let mut bytes = [0u8; 16];
+    pipe.read_full(&mut bytes);
+    let time = wire::f64_at(&bytes, 0);
+    let step = wire::f64_at(&bytes, 8);
+    let state = read_vector(pipe, n);
+    let f0 = read_vector(pipe, n);
+    let mut bytes = [0u8; JACOBIAN];
+    pipe.read_full(&mut bytes[..8 * (n * n)]);
     let mut jacobian = [0.0; PLACES * PLACES];
     let jacobian = &mut jacobian[..n * n];
-    wire::get_doubles(input, jacobian)?;
-    let previous = read_vector(input, n)?;
+    wire::doubles_in(&bytes, jacobian);
+    let previous = read_vector(pipe, n);
     let mut answers = [0.0; 20 * PLACES];
     let (places, _) = answers.as_chunks_mut::<PLACES>();
     for answer in places.iter_mut().take(count) {
-        wire::get_doubles(input, &mut answer[..n])?;
+        *answer = read_vector(pipe, n);
     }
     let point = Point {
         n: Dimension::new(n),
@@ -98,9 +106,10 @@ fn record<R: Read, W: Write>(pipe: &mut Pipe<R, W>) -> io::Result<()> {
         count,
     };
     let r = schemes::perform_step(scheme, &replay);
+    let mut reply = [0u8; REPLY];
+    let length = put_step(&mut reply, scheme, n, r);
     // A reply that cannot be written is left out.
-    let _ = write_step(&mut pipe.output, scheme, n, r);
-    let _ = pipe.output.flush();
+    let _ = pipe.write_all(&reply[..length]);
     Ok(())
 }
 
@@ -110,13 +119,10 @@ fn run<R: Read, W: Write>(pipe: &mut Pipe<R, W>) {
     let _ended = (0..u64::MAX).try_for_each(|_| record(pipe));
 }
 
-// Where no memory is left for the buffers, the streams stand without.
+// The streams without buffers: what follows a record stays in the input for whoever reads on.
 fn main(rt: HostRuntime) {
-    match pipe::standard(rt.alloc(), rt.stdin(), rt.stdout()) {
-        Ok(mut pipe) => run(&mut pipe),
-        Err(_) => run(&mut Pipe {
-            input: rt.stdin(),
-            output: rt.stdout(),
-        }),
-    }
+    run(&mut Pipe {
+        input: rt.stdin(),
+        output: rt.stdout(),
+    });
 }

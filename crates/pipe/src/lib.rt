@@ -11,7 +11,7 @@ use std::io;
 use std::io::{BufReader, BufWriter, ErrorKind, Read, Stdin, Stdout, Write};
 
 // Where a program reads, and where it writes.
-#[derive(Drop)]
+#[derive(Clone, Copy, Drop)]
 pub struct Pipe<R, W> {
     pub input: R,
     pub output: W,
@@ -49,6 +49,17 @@ impl<R: Read, W: Write> Pipe<R, W> {
             }
         }
         done
+    }
+
+    // Fills b, in the reader's order and none left out; the error is that the input ends before, or cannot be read.
+    pub fn fill(&mut self, b: &mut [u8]) -> io::Result<()>
+        ensures bytes { OnOk result (Consumes (R.remaining self.old.input) (R.remaining self.new.input) b.new) }
+        ensures output { self.new.output ≡ self.old.output }
+    {
+        if self.read_full(b) < b.len() {
+            return Err(io::Error::from(ErrorKind::UnexpectedEof));
+        }
+        Ok(())
     }
 
     // Writes all of b, after what the writer had, and hands it on.

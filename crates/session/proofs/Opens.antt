@@ -1,5 +1,5 @@
 -- The tests of a run that is to be opened: its attempt holds nothing. Assumes nothing.
-use Rattle.std.proofs.Common.{◌≡◌, refl, ◌∙◌, Bool, true, false, cond, ◌&&◌, [], ◌∷◌}
+use Rattle.std.proofs.Common.{◌≡◌, refl, sym, ◌∙◌, Bool, true, false, cond, ◌&&◌, [], ◌∷◌, ltb}
 use Rattle.std.proofs.Math.Bool.{and-true}
 use Rattle.std.specs.Float.Ieee.{of_bits}
 use Rattle.float.specs.Arith.{finite, plus_zero}
@@ -10,7 +10,7 @@ use Rattle.session.specs.declared.Refusal.{Refusal}
 use Rattle.session.specs.declared.Refusal.TheVariants as Why
 use Rattle.session.specs.Tests.{tested}
 use Rattle.session.specs.Session.{Run, jacobian_room, fresh, idle, clear, used_history, used_jacobian, step_clear, size_ok, run_places, attempt_places}
-use Rattle.session.specs.Session.{good1, good2, good3, good4, good5, good7, good9, admits, names, tolerances_ok, session_tests}
+use Rattle.session.specs.Session.{schemes, history_ok, wanted, good1, good2, good3, good4, good5, good7, good9, admits, names, tolerances_ok, session_tests}
 use Rattle.session.specs.Calls.{opened}
 use Rattle.session.proofs.Clear.{clear-zeros, clear-answers-zeros, finite-zeros}
 
@@ -54,3 +54,8 @@ module _ (r : Run) where
       ∷ (finite r.time && all_finite r.state && all_finite r.derivative && all_finite r.previous, Why.NotFinite) ∷ [])
   unfolding session_tests good7 good9 admits names tested
   opening = rw (places, figures, tolerances, no_step) (one_row (size_ok r.n) open_places _ (Err Why.Places))
+
+  -- 2: an opened run has no answer, so its scheme and its history are what is left
+  pub opened_scheme : {b : Bool} → b ≡ history_ok r.history r.scheme → (ltb r.scheme schemes && b) ≡ good2 (opened r)
+  unfolding good2 opened idle fresh wanted
+  opened_scheme e = rw e (sym (and-true _))

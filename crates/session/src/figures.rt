@@ -51,7 +51,9 @@ pub fn put(x: &[f64], out: &mut [f64], at: usize)
     requires { at + length x.now ≤ length out.old }
     ensures { out.new ≡ stores (λ i _. x.now ! i) at (length x.now) out.old }
 {
-    out[at..at + x.len()].copy_from_slice(x);
+    for (i, y) in x.iter().enumerate() {
+        out[at + i] = *y;
+    }
 }
 
 // Sets n places of out to +0.0, from place `at` on.

@@ -6,7 +6,7 @@ use crate::figures::part;
 use crate::{
     ABSOLUTE_AT, ANSWERS_AT, DERIVATIVE_AT, Figures, Head, JACOBIAN, JACOBIAN_AT, PREVIOUS_AT,
     Phase, RELATIVE_AT, SCHEMES, STATE_AT, STEP_AT, TIME_AT, admits, history_ok, names, places,
-    step_clear, tolerances_ok, used_history, used_jacobian, wanted,
+    run_clear, run_finite, step_clear, tolerances_ok, used_jacobian, wanted,
 };
 use evaluation::PLACES;
 use methods::Dimension;
@@ -34,14 +34,14 @@ impl Lent<'_> {
     pub fn run_places(&self) -> bool
         ensures { result ≡ run_places (lent self.now) }
     {
-        let n = self.head.n;
-        places::clear(part::<PLACES>(self.figures, ABSOLUTE_AT), n)
-            & places::clear(part::<PLACES>(self.figures, STATE_AT), n)
-            & places::clear(part::<PLACES>(self.figures, DERIVATIVE_AT), n)
-            & places::clear(
-                part::<PLACES>(self.figures, PREVIOUS_AT),
-                used_history(self.head.history, n),
-            )
+        run_clear(
+            self.head.n,
+            self.head.history,
+            part(self.figures, ABSOLUTE_AT),
+            part(self.figures, STATE_AT),
+            part(self.figures, DERIVATIVE_AT),
+            part(self.figures, PREVIOUS_AT),
+        )
     }
 
     // 1, of the attempt.
@@ -119,17 +119,16 @@ impl Lent<'_> {
         ensures { result ≡ good3 (lent self.now) }
     {
         let k = self.head;
-        float::finite(self.figures[TIME_AT])
-            & places::finite(part::<PLACES>(self.figures, STATE_AT), k.n)
-            & places::finite(part::<PLACES>(self.figures, DERIVATIVE_AT), k.n)
-            & places::finite(
-                part::<PLACES>(self.figures, PREVIOUS_AT),
-                used_history(k.history, k.n),
-            )
-            & places::finite(
-                part::<JACOBIAN>(self.figures, JACOBIAN_AT),
-                used_jacobian(k.attempt, self.n()),
-            )
-            & places::finite_answers(part(self.figures, ANSWERS_AT), k.count, k.n)
+        run_finite(
+            k.n,
+            k.history,
+            self.figures[TIME_AT],
+            part(self.figures, STATE_AT),
+            part(self.figures, DERIVATIVE_AT),
+            part(self.figures, PREVIOUS_AT),
+        ) & places::finite(
+            part::<JACOBIAN>(self.figures, JACOBIAN_AT),
+            used_jacobian(k.attempt, self.n()),
+        ) & places::finite_answers(part(self.figures, ANSWERS_AT), k.count, k.n)
     }
 }

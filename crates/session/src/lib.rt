@@ -7,11 +7,12 @@ ghost use Rattle.loops.specs.Loop.{stores, ◌!◌};
 ghost use Rattle.evaluation.specs.Evaluation.{all_finite};
 ghost use Rattle.evaluation.specs.Sizes.{places, answers_kept};
 ghost use Rattle.methods.specs.Order.{order_number};
-ghost use Rattle.float.specs.Arith.{zero+};
+ghost use Rattle.float.specs.Arith.{zero+, finite};
 ghost use Rattle.session.specs.Tests.{refusal_number, tested};
 ghost use Rattle.session.specs.Session.{jacobian_room, clear, used_history, used_jacobian, step_clear, wanted, phase_number, admits, names};
 ghost use Rattle.session.specs.Session.{good1, history_ok, positive, tolerances_ok, step_ok, good5, session_tests, Sound};
 ghost use Rattle.session.specs.Session.{progress};
+ghost use Rattle.session.specs.Claims.{Typed};
 ghost use Rattle.session.specs.Figures.{FIGURES, answers_at, session_of, head_of, figures_of};
 ghost use Rattle.session.specs.Calls.{outcome, told, tell, refuse_lent, opened, nothing, begun, rested, answered, moved, shown, arrived, settled};
 ghost use Rattle.session.specs.Calls.{vector_tests, attempt_tests, largest_tests, begin_tests, supply_tests, accept_tests, first_step_tests};
@@ -357,6 +358,85 @@ pub fn test_session(wants: Option<Phase>, k: Head, figures: &Figures) -> Result<
 
 // ---- what is refused of what is handed in
 
+// 1, of the arrays of a run: the places past n are +0.0, and those of a history that there is not.
+fn run_clear(
+    n: usize,
+    history: History,
+    absolute: &[f64; PLACES],
+    state: &[f64; PLACES],
+    derivative: &[f64; PLACES],
+    previous: &[f64; PLACES],
+) -> bool
+    ensures { result ≡ (clear n absolute.now && clear n state.now && clear n derivative.now && clear (used_history history n) previous.now) }
+{
+    places::clear(absolute, n)
+        & places::clear(state, n)
+        & places::clear(derivative, n)
+        & places::clear(previous, used_history(history, n))
+}
+
+// 3, of a run: its time, and of its arrays the places in use.
+fn run_finite(
+    n: usize,
+    history: History,
+    time: f64,
+    state: &[f64; PLACES],
+    derivative: &[f64; PLACES],
+    previous: &[f64; PLACES],
+) -> bool
+    requires state_value { (clear n state.now ≡ true) × (clear n derivative.now ≡ true) }
+    requires previous_value { clear (used_history history n) previous.now ≡ true }
+    ensures { result ≡ (finite «time» && all_finite state.now && all_finite derivative.now && all_finite previous.now) }
+{
+    float::finite(time)
+        & places::finite(state, n)
+        & places::finite(derivative, n)
+        & places::finite(previous, used_history(history, n))
+}
+
+// Why a run that is to be opened is refused, if it is, before its figures are written: the tests of a session that its attempt, which holds nothing, does not pass by itself.
+// Kept: what a run begins with one by one, as `put_run` has it.
+fn test_run(
+    scheme: u8,
+    n: usize,
+    history: History,
+    time: f64,
+    relative: f64,
+    absolute: &[f64; PLACES],
+    state: &[f64; PLACES],
+    derivative: &[f64; PLACES],
+    previous: &[f64; PLACES],
+) -> Result<(), Refusal>
+    ensures { result ≡ tested (session_tests None (opened (record {
+      scheme = scheme;
+      n = n;
+      time = «time»;
+      state = state.now;
+      derivative = derivative.now;
+      relative = «relative»;
+      absolute = absolute.now;
+      history = history;
+      previous = previous.now;
+    }))) }
+{
+    if !((1 <= n) & (n <= PLACES)) {
+        return Err(Refusal::Places);
+    }
+    if !run_clear(n, history, absolute, state, derivative, previous) {
+        return Err(Refusal::Places);
+    }
+    if !((scheme < SCHEMES) & history_ok(history, scheme)) {
+        return Err(Refusal::Scheme);
+    }
+    if !tolerances_ok(Dimension::new(n), relative, absolute) {
+        return Err(Refusal::Tolerance);
+    }
+    if !run_finite(n, history, time, state, derivative, previous) {
+        return Err(Refusal::NotFinite);
+    }
+    Ok(())
+}
+
 fn test_vector(n: usize, x: &[f64; PLACES]) -> Result<(), Refusal>
     ensures { result ≡ tested (vector_tests n x.now true) }
 {
@@ -464,7 +544,7 @@ fn put_attempt(
     requires figures_value { tested (session_tests (Some Phase.Rest) (session_of k figures.old)) ≡ Ok tt }
     requires jacobian_value { clear (used_jacobian attempt k.n) jacobian.now ≡ true }
     ensures begun { session_of result figures.new ≡ begun (session_of k figures.old) «step» attempt jacobian.now }
-    ensures back { rested (session_of result figures.new) ≡ session_of k figures.old }
+    ensures typed { Typed (session_of k figures.old) }
 {
     let used = used_jacobian(attempt, Dimension::new(k.n));
     figures[STEP_AT] = step;
@@ -653,14 +733,15 @@ pub fn open_over(
       previous = previous.now;
     }) }
 {
+    if let Err(refusal) = test_run(
+        scheme, n, history, time, relative, absolute, state, derivative, previous,
+    ) {
+        return refused(put_nothing(figures), refusal);
+    }
     put_run(
         time, relative, absolute, state, derivative, previous, figures,
     );
-    let k = unopened(scheme, n, history);
-    if let Err(refusal) = test_session(None, k, figures) {
-        return refused(put_nothing(figures), refusal);
-    }
-    resting(k)
+    resting(unopened(scheme, n, history))
 }
 
 // Kept: step, wish and Jacobian are handed on from the two ways to begin to here; a struct of them would be made by each and taken apart here.

@@ -24,6 +24,12 @@ bytes_of_u64 x =
 byte_from : (b : List ℕ) (i n k : ℕ) → k < n → byte_at (take n (drop i b)) k ≡ byte_at b (i + k)
 byte_from b i n k h = get_or-take n (drop i b) k 0 h ∙ get_or-drop i b k 0
 
+pub word16_from : (b : List ℕ) (i n : ℕ) → 2 ≤ n → word16 (take n (drop i b)) 0 ≡ word16 b i
+unfolding word16
+word16_from b i n h =
+    let m0 : i + 0 ≡ i = omega arith in
+    rw (byte_from b i n 0 (omega (arith, h)), byte_from b i n 1 (omega (arith, h)), m0)
+
 pub word64_from : (b : List ℕ) (i n : ℕ) → 8 ≤ n → word64 (take n (drop i b)) 0 ≡ word64 b i
 unfolding word64 word32 word16
 word64_from b i n h =

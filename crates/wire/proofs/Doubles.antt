@@ -1,11 +1,12 @@
 -- Doubles that stand one after another, one more read or written. Assumes nothing.
-use Rattle.std.proofs.Common.{ℕ, ◌≡◌, ◌+◌, ◌*◌, ◌<◌, ◌≤◌, ◌∙◌, arith, ap, sym, below_more, append_assoc, append-nil, take, Option, List, [], ◌∷◌, ◌++◌, length, get_or, set}
+use Rattle.std.proofs.Common.{ℕ, ◌≡◌, ◌+◌, ◌*◌, ◌<◌, ◌≤◌, ◌∙◌, arith, ap, refl, sym, below_more, append_assoc, append-nil, take, drop, Option, List, [], ◌∷◌, ◌++◌, length, get_or, set}
+use borrow.Rule.Slice.PartMut.{put_mid}
 use Rattle.std.proofs.Math.ListN.{get_or-append, length-append}
-use Rattle.std.proofs.lemmas.List.{take_more, get_or-append-add, get_or-set_same, get_or-set_other}
+use Rattle.std.proofs.lemmas.List.{take_more, take_at, drop_at, drop-drop, length-take-le, get_or-append-add, get_or-set_same, get_or-set_other}
 use Rattle.std.proofs.KnownBytes.{Consumes-trans}
 use Rattle.std.specs.Float.{binary64}
 use Rattle.std.specs.Float.Ieee.{Float, of_bits, to_bits, nan}
-use Rattle.wire.specs.Wire.{word16, word32, word64, Takes, blank, put64, doubles_bytes}
+use Rattle.wire.specs.Wire.{word16, word32, word64, Takes, blank, put32, put64, doubles_bytes}
 
 byte_behind : (b c : List ℕ) (i n : ℕ) → i ≡ length b + n → get_or (b ++ c) i 0 ≡ get_or c n 0
 byte_behind b c i n e = rw e (get_or-append-add b c n 0)
@@ -66,3 +67,20 @@ bytes_more x i d within = rw (take_more x i d within) (go (take i x) (get_or x i
     go : (x : List Float) (y : Float) → doubles_bytes (x ++ y ∷ []) ≡ doubles_bytes x ++ put64 (blank 8) 0 (to_bits binary64 y)
     go [] y = append-nil _
     go (x ∷ xs) y = rw (go xs y) (sym (append_assoc (put64 (blank 8) 0 (to_bits binary64 x)) (doubles_bytes xs) (put64 (blank 8) 0 (to_bits binary64 y))))
+
+-- eight bytes for each double
+doubles_long : (x : List Float) → length (doubles_bytes x) ≡ 8 * length x
+unfolding put32 put64
+doubles_long [] = refl
+doubles_long (x ∷ xs) = length-append (put64 (blank 8) 0 (to_bits binary64 x)) (doubles_bytes xs) ∙ rw (doubles_long xs) (omega arith)
+
+-- one double more in its place, and what stands behind it is as it was
+pub doubles_set : (x : List Float) (i m : ℕ) (b from y : List ℕ) → m ≡ 8 → i < length x → b ≡ doubles_bytes (take i x) ++ drop (8 * i) from
+    → y ≡ put64 (blank 8) 0 (to_bits binary64 (get_or x i nan)) → put_mid (8 * i) m b y ≡ doubles_bytes (take (i + 1) x) ++ drop (8 * (i + 1)) from
+doubles_set x i m b from y eight within e f =
+    let p = doubles_bytes (take i x) in
+    let long : length p ≡ 8 * i = doubles_long (take i x) ∙ ap (λ n. 8 * n) (length-take-le i x (omega arith)) in
+    let front : take (8 * i) b ≡ p = ap (take (8 * i)) e ∙ take_at p (drop (8 * i) from) (8 * i) long in
+    let back : drop (8 * i) b ≡ drop (8 * i) from = ap (drop (8 * i)) e ∙ drop_at p (drop (8 * i) from) (8 * i) long in
+    let rest : drop m (drop (8 * i) from) ≡ drop (8 * (i + 1)) from = drop-drop m (8 * i) from ∙ ap (λ n. drop n from) (omega arith) in
+    rw (front, back, rest, f, bytes_more x i nan within) (sym (append_assoc p (put64 (blank 8) 0 (to_bits binary64 (get_or x i nan))) (drop (8 * (i + 1)) from)))

@@ -1,7 +1,7 @@
-// Numbers and doubles as little-endian bytes, taken from a reader and given to a writer.
+// Numbers and doubles as little-endian bytes: where they stand in a record, which no call fails to take or to give; taken from a reader and given to a writer.
 #![tactic(auto)]
 
-ghost use Rattle.std.specs.Prelude.{◌≡◌, ◌+◌, ◌*◌, ◌≤◌, [], ◌∷◌, length, IfOk, OnOk};
+ghost use Rattle.std.specs.Prelude.{◌≡◌, ◌+◌, ◌*◌, ◌≤◌, [], ◌∷◌, ◌++◌, length, drop, IfOk, OnOk};
 ghost use Rattle.std.specs.Float.{binary64};
 ghost use Rattle.std.specs.Float.Ieee.{of_bits, to_bits};
 ghost use Rattle.std.specs.Io.KnownBytes.{Appends};
@@ -10,6 +10,49 @@ ghost use Rattle.wire.specs.Wire.{Takes, word16, word64, HoldsDoubles, blank, pu
 use std::io;
 use std::io::{Read, Write};
 use std::num::{f64_from_bits_with_nan, f64_to_bits_with_nan};
+
+// The 16-bit number that begins at place i.
+pub fn u16_at(b: &[u8], i: usize) -> u16
+    requires { i + 2 ≤ length b.now }
+    ensures { result ≡ word16 b.now i }
+{
+    u16::from_le_bytes(*b[i..i + 2].as_array().unwrap())
+}
+
+// The double that begins at place i; every NaN's pattern is a NaN.
+pub fn f64_at(b: &[u8], i: usize) -> f64
+    requires { i + 8 ≤ length b.now }
+    ensures { result ≡ of_bits binary64 (word64 b.now i) }
+{
+    f64_from_bits_with_nan(u64::from_le_bytes(*b[i..i + 8].as_array().unwrap()))
+}
+
+// As many doubles as x has places, which stand one after another from the first byte on.
+pub fn doubles_in(b: &[u8], x: &mut [f64])
+    requires { 8 * length x.old ≤ length b.now }
+    ensures { HoldsDoubles x.new b.now }
+{
+    for (k, y) in x.iter_mut().enumerate() {
+        *y = f64_at(b, 8 * k);
+    }
+}
+
+// The bytes of a double's pattern; a NaN's is 0x7ff8000000000000.
+pub fn f64_bytes(x: f64) -> [u8; 8]
+    ensures { result ≡ put64 (blank 8) 0 (to_bits binary64 x) }
+{
+    f64_to_bits_with_nan(x).to_le_bytes()
+}
+
+// The bytes of all of x, one double after another, from the first byte on.
+pub fn set_doubles(b: &mut [u8], x: &[f64])
+    requires { 8 * length x.now ≤ length b.old }
+    ensures { b.new ≡ doubles_bytes x.now ++ drop (8 * length x.now) b.old }
+{
+    for (k, y) in x.iter().enumerate() {
+        b[8 * k..8 * k + 8].copy_from_slice(&f64_bytes(*y));
+    }
+}
 
 // The next byte.
 pub fn get_u8<R: Read>(input: &mut R) -> io::Result<u8>
@@ -38,14 +81,6 @@ pub fn get_f64<R: Read>(input: &mut R) -> io::Result<f64>
     Ok(f64_from_bits_with_nan(u64::from_le_bytes(b)))
 }
 
-// The double that begins at place i; every NaN's pattern is a NaN.
-pub fn f64_at(b: &[u8], i: usize) -> f64
-    requires { i + 8 ≤ length b.now }
-    ensures { result ≡ of_bits binary64 (word64 b.now i) }
-{
-    f64_from_bits_with_nan(u64::from_le_bytes(*b[i..i + 8].as_array().unwrap()))
-}
-
 // As many doubles as x has places, one after another.
 pub fn get_doubles<R: Read>(input: &mut R, x: &mut [f64]) -> io::Result<()>
     ensures { OnOk result (Takes (8 * length x.new) (HoldsDoubles x.new) (R.remaining input.old) (R.remaining input.new)) }
@@ -67,7 +102,7 @@ pub fn put_u32<W: Write>(output: &mut W, x: u32) -> io::Result<()>
 pub fn put_f64<W: Write>(output: &mut W, x: f64) -> io::Result<()>
     ensures { OnOk result (Appends (W.contents output.old) (W.contents output.new) (put64 (blank 8) 0 (to_bits binary64 x))) }
 {
-    output.write_all(&f64_to_bits_with_nan(x).to_le_bytes())
+    output.write_all(&f64_bytes(x))
 }
 
 // The bytes of all of x, one double after another.

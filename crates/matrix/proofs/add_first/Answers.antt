@@ -19,7 +19,7 @@ module _ (a s f x y : List Float) (v : f ≡ a) (m : Mapped f s (λ z. zero+ ⊕
   low h = rw (m.added, made) h
 
 pub is_last-requires : goal.is_last-requires
-is_last-requires c = low _ _ _ _ _ c.copy_from_slice.ensures.after (c.add_by.ensures (λ z. zero+ ⊕ z) (λ x y e. search rules)) c.requires.low
+is_last-requires c = low _ _ _ _ _ c.copy_all.ensures (c.add_by.ensures (λ z. zero+ ⊕ z) (λ x y e. search rules)) c.requires.low
 
 pub returns : goal.returns
-returns c = first _ _ _ _ _ c.copy_from_slice.ensures.after (c.add_by.ensures (λ z. zero+ ⊕ z) (λ x y e. search rules)) _ c.is_last.ensures
+returns c = first _ _ _ _ _ c.copy_all.ensures (c.add_by.ensures (λ z. zero+ ⊕ z) (λ x y e. search rules)) _ c.is_last.ensures

