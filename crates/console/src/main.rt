@@ -2,7 +2,7 @@
 // It holds one session, and starts with the one that a refused open gives.
 #![tactic(auto)]
 
-ghost use Rattle.std.specs.Prelude.{◌≤◌, IfOk};
+ghost use Rattle.std.specs.Prelude.{◌+◌, ◌≤◌, length, IfOk};
 
 use pipe::Pipe;
 use session::{Answer, Head, History, Refusal, Session, Told};
@@ -71,6 +71,13 @@ fn head(b: &[u8]) -> Head
 
 // ---- replies
 
+// A count, from place `at` of a reply on.
+fn put_count(b: &mut [u8; REPLY], at: usize, count: u32)
+    requires { at + 4 ≤ 22 }
+{
+    b[at..at + 4].copy_from_slice(&count.to_le_bytes());
+}
+
 // The bytes of a reply before the lent places.
 fn reply(answer: Result<Answer, Refusal>) -> [u8; REPLY] {
     let r = image::reply_of(answer);
@@ -79,9 +86,9 @@ fn reply(answer: Result<Answer, Refusal>) -> [u8; REPLY] {
     b[0] = u8::from(r.outcome);
     b[1] = r.refusal;
     b[2..10].copy_from_slice(&wire::f64_bytes(r.figure));
-    b[10..14].copy_from_slice(&first.to_le_bytes());
-    b[14..18].copy_from_slice(&second.to_le_bytes());
-    b[18..22].copy_from_slice(&third.to_le_bytes());
+    put_count(&mut b, 10, first);
+    put_count(&mut b, 14, second);
+    put_count(&mut b, 18, third);
     b
 }
 
@@ -111,15 +118,16 @@ fn told<R: Read, W: Write>(pipe: &mut Pipe<R, W>, t: Told) -> io::Result<Session
 fn open<R: Read, W: Write>(pipe: &mut Pipe<R, W>) -> io::Result<Session> {
     let mut b = [0u8; 19 + 4 * VECTOR];
     pipe.fill(&mut b)?;
+    let [scheme, n, history] = [b[0], b[1], b[2]];
     let t = Session::open(
-        b[0],
-        b[1] as usize,
+        scheme,
+        n as usize,
         wire::f64_at(&b, 3),
         vector(&b[19 + VECTOR..]),
         vector(&b[19 + 2 * VECTOR..]),
         wire::f64_at(&b, 11),
         vector(&b[19..]),
-        image::history_of(b[2] as u64),
+        image::history_of(history as u64),
         vector(&b[19 + 3 * VECTOR..]),
     );
     told(pipe, t)
@@ -233,8 +241,8 @@ fn error_norm<R: Read, W: Write>(pipe: &mut Pipe<R, W>) -> io::Result<()> {
 
 fn show<R: Read, W: Write>(pipe: &mut Pipe<R, W>, s: Session) -> io::Result<()> {
     let mut b = [0u8; image::BYTES];
-    for (byte, number) in b.iter_mut().zip(image::numbers_of(s.head())) {
-        *byte = (number % 256) as u8;
+    for (i, number) in image::numbers_of(s.head()).iter().enumerate() {
+        b[i] = (*number % 256) as u8;
     }
     wire::set_doubles(&mut b[image::NUMBERS..], &s.figures());
     pipe.write_all(&b)

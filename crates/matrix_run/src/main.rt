@@ -4,7 +4,7 @@
 // 1, squarings: how many, a byte, and two arrays, each of size * size doubles. The reply is both arrays after them.
 #![tactic(auto)]
 
-ghost use Rattle.std.specs.Prelude.{◌≤◌};
+ghost use Rattle.std.specs.Prelude.{◌≤◌, length};
 
 use pipe::Pipe;
 use std::io;
@@ -15,24 +15,33 @@ const ROOM: usize = 400;
 
 const BYTES: usize = 8 * ROOM;
 
+// Says what a reply begins with, and the exponential.
+fn say<R: Read, W: Write>(pipe: &mut Pipe<R, W>, head: [u8; 3], out: &[f64]) -> io::Result<()>
+    requires { length out.now ≤ 400 }
+{
+    let mut b = [0u8; 3 + BYTES];
+    b[0] = head[0];
+    b[1] = head[1];
+    b[2] = head[2];
+    wire::set_doubles(&mut b[3..], out);
+    pipe.write_all(&b[..3 + 8 * out.len()])
+}
+
 // Answers an exponential.
 fn exponential<R: Read, W: Write>(pipe: &mut Pipe<R, W>, n: usize) -> io::Result<()>
     requires { n ≤ 20 }
 {
-    let places = n * n;
-    let mut bytes = [0u8; 3 + BYTES];
-    pipe.fill(&mut bytes[..8 * places])?;
+    let mut bytes = [0u8; BYTES];
+    pipe.fill(&mut bytes[..8 * (n * n)])?;
     let mut m = [0.0; ROOM];
     let mut out = [0.0; ROOM];
-    let m = &mut m[..places];
-    let out = &mut out[..places];
+    let m = &mut m[..n * n];
+    let out = &mut out[..n * n];
     wire::doubles_in(&bytes, m);
     let Some(reach) = matrix::matrix_exp(m, out, n) else {
         return pipe.write_all(&[0]);
     };
-    bytes[..3].copy_from_slice(&[1, reach.terms as u8, reach.squarings as u8]);
-    wire::set_doubles(&mut bytes[3..], out);
-    pipe.write_all(&bytes[..3 + 8 * places])
+    say(pipe, [1, reach.terms as u8, reach.squarings as u8], out)
 }
 
 // Answers squarings.
