@@ -75,7 +75,7 @@ fn head(b: &[u8]) -> Head
 fn put_count(b: &mut [u8; REPLY], at: usize, count: u32)
     requires { at + 4 ≤ 22 }
 {
-    b[at..at + 4].copy_from_slice(&count.to_le_bytes());
+    b[at..at + 4].copy_from_slice(&wire::u32_bytes(count));
 }
 
 // The bytes of a reply before the lent places.

@@ -28,7 +28,7 @@ fn record<R: Read, W: Write>(pipe: &mut Pipe<R, W>) -> io::Result<()> {
     pipe.fill(&mut input)?;
     let x = wire::f64_at(&input, 1);
     let y = wire::f64_at(&input, 9);
-    pipe.write_all(&reply(input[0], x, y).to_le_bytes())
+    pipe.write_all(&wire::u64_bytes(reply(input[0], x, y)))
 }
 
 // Ends with the input, or at a reply that cannot be written. A proved loop has to end: no run uses up its turns.

@@ -21,7 +21,7 @@ const JACOBIAN: usize = VECTOR * PLACES;
 
 const REPLY: usize = 10 + 3 * VECTOR;
 
-// The first n places of a vector; +0.0 in the others, and in those that the input does not have any more.
+// The first n places of a vector; +0.0 in the others. Where the input ends before, zeros stand for the bytes that it does not have.
 fn read_vector<R: Read, W: Write>(pipe: &mut Pipe<R, W>, n: usize) -> [f64; PLACES]
     requires { n ≤ 16 }
 {
@@ -50,8 +50,8 @@ fn put_step(b: &mut [u8; REPLY], scheme: u8, n: usize, r: Option<StepResult>) ->
         }
         Some(StepResult::Done(candidate, error, nonlinear, work)) => {
             b[0] = 2;
-            b[1..5].copy_from_slice(&work.exponentials.to_le_bytes());
-            b[5..9].copy_from_slice(&work.products.to_le_bytes());
+            b[1..5].copy_from_slice(&wire::u32_bytes(work.exponentials));
+            b[5..9].copy_from_slice(&wire::u32_bytes(work.products));
             wire::set_doubles(&mut b[9..], &candidate[..n]);
             let told = scheme == EXPRB32 || scheme == EXPRB43;
             b[9 + 8 * n] = told as u8;

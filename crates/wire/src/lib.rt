@@ -37,11 +37,25 @@ pub fn doubles_in(b: &[u8], x: &mut [f64])
     }
 }
 
+// The four bytes of x.
+pub fn u32_bytes(x: u32) -> [u8; 4]
+    ensures { result ≡ put32 (blank 4) 0 x }
+{
+    u32::to_le_bytes(x)
+}
+
+// The eight bytes of x.
+pub fn u64_bytes(x: u64) -> [u8; 8]
+    ensures { result ≡ put64 (blank 8) 0 x }
+{
+    u64::to_le_bytes(x)
+}
+
 // The bytes of a double's pattern; a NaN's is 0x7ff8000000000000.
 pub fn f64_bytes(x: f64) -> [u8; 8]
     ensures { result ≡ put64 (blank 8) 0 (to_bits binary64 x) }
 {
-    f64_to_bits_with_nan(x).to_le_bytes()
+    u64_bytes(f64_to_bits_with_nan(x))
 }
 
 // The bytes of all of x, one double after another, from the first byte on.
@@ -95,7 +109,7 @@ pub fn get_doubles<R: Read>(input: &mut R, x: &mut [f64]) -> io::Result<()>
 pub fn put_u32<W: Write>(output: &mut W, x: u32) -> io::Result<()>
     ensures { OnOk result (Appends (W.contents output.old) (W.contents output.new) (put32 (blank 4) 0 x)) }
 {
-    output.write_all(&x.to_le_bytes())
+    output.write_all(&u32_bytes(x))
 }
 
 // The bytes of x's pattern, after what the writer had; a NaN's is 0x7ff8000000000000.
